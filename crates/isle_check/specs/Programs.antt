@@ -9,6 +9,7 @@ use Rattle.isle_cli.specs.Arguments.{Given}
 use Rattle.isle_check.specs.Report.{LineNode, ToldNode, finding_line, refused_lines, rendered, told_in}
 use Rattle.isle_check.specs.ReportView.{told_node}
 use Rattle.isle_check.specs.declared.programs.Checked as checked_code
+use Rattle.isle_check.specs.declared.programs.Once as once_code
 use Rattle.isle_program_findings.specs.Programs.{AddsExamined, AreExamined, Examined, Part, Share, each_once, is_own, part_of, share_in, tag}
 use Rattle.isle_program.specs.Reading.{IsReading}
 use Rattle.isle_program.specs.reports.Formats.{format_in}
@@ -22,6 +23,10 @@ Checked = Examined ToldNode
 -- that of the code
 abbrev pub checked_of : checked_code.Checked → Checked
 checked_of c = record { part = part_of c.part.now; told = map told_node c.told.items }
+
+-- what is told once
+abbrev pub once_of : once_code.Once → ToldNode
+once_of o = told_node o.told.now
 
 -- this is told of the findings in one program
 pub record IsToldIn (given : List Given) (sources : List Source) (told : List ToldNode) : Type 0 where

@@ -1,6 +1,5 @@
 -- Reports of code as pure values.
 use Rattle.std.specs.Prelude.{List, map, string_bytes}
-use Rattle.std.specs.Borrow.{Bor}
 use Rattle.isle_check_messages.specs.Words.{words_of}
 use Rattle.isle_check.specs.Report.{LineNode, ToldNode}
 use Rattle.isle_check.specs.declared.report.Line.{Line}
@@ -14,6 +13,3 @@ lines_at ls = map line_at ls
 
 abbrev pub told_node : Told → ToldNode
 told_node t = record { pos = t.pos; is_error = t.is_error; words = words_of t.words; notes = string_bytes t.notes }
-
-abbrev pub told_nodes : List (Bor Told) → List ToldNode
-told_nodes ts = map (λ t. told_node t.now) ts

@@ -17,9 +17,9 @@ use isle_cli::failure::Failure;
 use isle_cli::program::{put, report};
 use isle_cli::sources::Source;
 use isle_cli::streams::{Streams, write_whole};
-use isle_program_findings::programs::Part;
 use isle_program::reports::colours::{COLOUR_OPTION, settle};
 use isle_program::reports::format::FORMAT_OPTION;
+use isle_program_findings::programs::Part;
 use isle_program_manifest::asking::{
     ALL_OPTION, NAME_OPTION, asked_choice, read_texts, tell_choice,
 };

@@ -8,10 +8,10 @@ ghost use Rattle.isle_cli.specs.declared.failure.Failure.TheVariants.{Memory};
 ghost use Rattle.isle_check.specs.Programs as Programs;
 ghost use Rattle.isle_check.specs.Programs.{AddsChecked, AreChecked, IsProgramsReport, IsToldIn};
 ghost use Rattle.isle_check.specs.Programs.{checked_of, has_same_words, is_as_bad, is_same};
-ghost use Rattle.isle_check.specs.Programs.{programs_lines, programs_of, share_of_checked};
+ghost use Rattle.isle_check.specs.Programs.{once_of, programs_lines, programs_of, share_of_checked};
 ghost use Rattle.isle_check.specs.Programs.{tagged_line, tagged_lines};
 ghost use Rattle.isle_check.specs.Report.{line_maps};
-ghost use Rattle.isle_check.specs.ReportView.{lines_at, told_node, told_nodes};
+ghost use Rattle.isle_check.specs.ReportView.{lines_at, told_node};
 ghost use Rattle.isle_program_findings.specs.Programs as shared;
 ghost use Rattle.isle_program_findings.specs.Programs.{part_of, share_of};
 ghost use Rattle.isle_program.specs.Reading.{IsReading};
@@ -23,10 +23,10 @@ use isle_base_source::files::LineMap;
 use isle_cli::arguments::Argument;
 use isle_cli::failure::Failure;
 use isle_cli::sources::Source;
-use isle_program_findings::programs::{Part, Share, is_own, own_texts, tag};
 use isle_program::reports::format::{Format, format_of};
-use isle_program_findings::report::Report;
 use isle_program::trees::{Reading, drop_reading, read_all};
+use isle_program_findings::programs::{Part, Share, is_own, own_texts, tag};
+use isle_program_findings::report::Report;
 use std::alloc::{AllocError, Global};
 
 /// A program that is checked.
@@ -34,6 +34,12 @@ use std::alloc::{AllocError, Global};
 struct Checked<'a> {
     part: &'a Part,
     told: Vec<Told>,
+}
+
+/// What is told once, however many programs have it.
+#[derive(Clone, Copy)]
+struct Once<'a> {
+    told: &'a Told,
 }
 
 /// Returns the report on several programs: a line for each text that does not parse, and then one
@@ -186,9 +192,9 @@ fn add_checked_lines(
         ++ tagged_lines format (map checked_of checked.now) (map source_of sources.now)
         (shared.each_once is_same [] (map checked_of checked.now))) }
 {
-    let told = each_once(alloc, checked)?;
+    let all = each_once(alloc, checked)?;
     let maps = line_maps(alloc, sources)?;
-    add_tagged(alloc, format, sources, &maps, checked, &told, lines)
+    add_tagged(alloc, format, sources, &maps, checked, &all, lines)
 }
 
 /// Adds the lines of findings, with the names of the programs that have them. `maps` are the line
@@ -199,16 +205,16 @@ fn add_tagged(
     sources: &[Source],
     maps: &[LineMap],
     checked: &[Checked],
-    told: &[&Told],
+    all: &[Once],
     lines: &mut Vec<Line>,
 ) -> Result<(), AllocError>
     requires { maps.now ≡ line_maps (map source_of sources.now) }
     ensures { OnOk result (lines_at lines.new.items ≡ lines_at lines.old.items
         ++ tagged_lines format (map checked_of checked.now) (map source_of sources.now)
-        (told_nodes told.now)) }
+        (map once_of all.now)) }
 {
-    for one in told {
-        add_tagged_line(alloc, format, sources, maps, checked, one, lines)?;
+    for one in all {
+        add_tagged_line(alloc, format, sources, maps, checked, one.told, lines)?;
     }
     Ok(())
 }
@@ -270,8 +276,8 @@ fn share_in<'a>(program: &'a Checked, told: &Told) -> Share<'a>
 }
 
 /// Returns what is told of all programs, each finding once.
-fn each_once<'a>(alloc: Global, checked: &'a [Checked]) -> Result<Vec<&'a Told>, AllocError>
-    ensures { IfOk result (λ all. told_nodes all.items
+fn each_once<'a>(alloc: Global, checked: &'a [Checked]) -> Result<Vec<Once<'a>>, AllocError>
+    ensures { IfOk result (λ all. map once_of all.items
         ≡ shared.each_once is_same [] (map checked_of checked.now)) }
 {
     let mut all = Vec::new(alloc);
@@ -282,24 +288,23 @@ fn each_once<'a>(alloc: Global, checked: &'a [Checked]) -> Result<Vec<&'a Told>,
 }
 
 /// Adds what is not there yet.
-fn add_all<'a>(all: &mut Vec<&'a Told>, told: &'a [Told]) -> Result<(), AllocError>
-    ensures { OnOk result (told_nodes all.new.items
-        ≡ shared.all_added is_same (told_nodes all.old.items)
-        (map told_node told.now)) }
+fn add_all<'a>(all: &mut Vec<Once<'a>>, told: &'a [Told]) -> Result<(), AllocError>
+    ensures { OnOk result (map once_of all.new.items
+        ≡ shared.all_added is_same (map once_of all.old.items) (map told_node told.now)) }
 {
     for one in told {
         if !is_among(all, one) {
-            all.push(one)?;
+            all.push(Once { told: one })?;
         }
     }
     Ok(())
 }
 
-fn is_among(all: &[&Told], told: &Told) -> bool
-    ensures { result ≡ Programs.is_among (told_nodes all.now) (told_node told.now) }
+fn is_among(all: &[Once], told: &Told) -> bool
+    ensures { result ≡ Programs.is_among (map once_of all.now) (told_node told.now) }
 {
     for other in all {
-        if is_same(told, other) {
+        if is_same(told, other.told) {
             return true;
         }
     }

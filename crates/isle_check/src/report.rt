@@ -27,13 +27,13 @@ use isle_check_core::{Finding, Note, Words, check};
 use isle_cli::arguments::Argument;
 use isle_cli::failure::Failure;
 use isle_cli::sources::Source;
-use isle_program_findings::naming::{counts, is_named};
 use isle_program::reports::format::{Format, format_of};
 use isle_program::reports::lines::told_line;
 use isle_program::reports::message::{Message, Severity};
 use isle_program::reports::refusals::{is_refused, told_refusal_of};
-use isle_program_findings::report::{NotedReport, Report, add_count, noted};
 use isle_program::trees::{Reading, drop_reading, read_all, refused_count};
+use isle_program_findings::naming::{counts, is_named};
+use isle_program_findings::report::{NotedReport, Report, add_count, noted};
 use std::alloc::{AllocError, Global};
 
 /// A line of a report.
