@@ -1,5 +1,5 @@
 -- What is done with what was read.
-use Rattle.std.proofs.Common.{◌≡◌, ◌<◌, ◌≤◌, ℕ, List, Option, arith, inl, inr, length, refl, true}
+use Rattle.std.proofs.Common.{◌≡◌, ◌<◌, ◌≤◌, ℕ, List, Option, arith, inl, inr, length, refl, subst, true}
 use Rattle.std.proofs.KnownBytes.{Keeps-refl}
 use Rattle.isle_base_source.specs.Source.{Source}
 use Rattle.isle_cli.specs.Arguments.{Given}
@@ -8,7 +8,7 @@ use Rattle.isle_cli.specs.Streams.{AppendsBeginning, WritesBeginning}
 use Rattle.isle_cli.specs.declared.failure.Failure.{Failure}
 use Rattle.isle_cli.specs.declared.failure.Failure.TheVariants as failures
 use Rattle.isle_cli.specs.declared.program.Program.{Program}
-use Rattle.isle_check.specs.Doing.{Explains, ExplainsTexts, IsCut, IsProgram, Reads, Tells, Told, ToldReport}
+use Rattle.isle_check.specs.Doing.{CutReport, Explains, ExplainsTexts, IsCut, IsProgram, Reads, Tells, Told, ToldReport}
 use Rattle.isle_check.specs.Options.{are_usable}
 use Rattle.isle_program.specs.SeveralPrograms.{IsNote}
 
@@ -28,15 +28,18 @@ module _ (given : List Given) (program : Program) (sources : List Source) (lines
       }
 
   -- all texts can be read, and the report on them is told
-  pub told_whole : length lines ≡ 0 → (status : ℕ) → ToldReport given status output output' faults faults' sources → Tells given status input input' output output' faults faults'
-  told_whole empty status told = reads (Told given status output output' faults faults') (inr (empty, told))
+  pub told_whole : length lines ≡ 0 → (texts : List Source) → texts ≡ sources → (status : ℕ)
+      → ToldReport given status output output' faults faults' texts → Tells given status input input' output output' faults faults'
+  told_whole empty texts same status told =
+      reads (Told given status output output' faults faults') (inr (empty, subst (ToldReport given status output output' faults faults') same told))
 
-  pub explained : length lines ≡ 0 → (failure : Failure) → ExplainsTexts failure given output output' sources → Explains failure given input input' output output'
-  explained empty (failures.Refused _) why = why
-  explained empty failures.Usage why = absurd why
-  explained empty failures.Input why = why
-  explained empty failures.Memory why = why
-  explained empty failures.Output why = reads (IsCut given output output') (empty, why)
+  pub explained : length lines ≡ 0 → (texts : List Source) → texts ≡ sources → (failure : Failure) → ExplainsTexts failure given output output' texts
+      → Explains failure given input input' output output'
+  explained empty texts same (failures.Refused _) why = why
+  explained empty texts same failures.Usage why = absurd why
+  explained empty texts same failures.Input why = why
+  explained empty texts same failures.Memory why = why
+  explained empty texts same failures.Output why = reads (IsCut given output output') (empty, subst (CutReport given output output') same why)
 
 -- some text can't be read, and standard error got the lines that say so
 pub told_faults : (given : List Given) (program : Program) (sources : List Source) (lines : List ℕ) (input input' output faults faults' : Option (List ℕ))

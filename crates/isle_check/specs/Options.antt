@@ -1,5 +1,5 @@
 -- Which kinds of findings a command line allows.
-use Rattle.std.specs.Prelude.{ℕ, List, [], ◌∷◌, Bool, false, true, not, ◌&&◌, ◌||◌, Option, None, Some, codes, if◌then◌else◌}
+use Rattle.std.specs.Prelude.{ℕ, List, [], ◌∷◌, Bool, true, not, ◌&&◌, ◌||◌, Option, None, Some, codes, if◌then◌else◌}
 use Rattle.std.specs.List.{list_all}
 use Rattle.std.specs.Str.{bytes_eq}
 use Rattle.isle_cli.specs.Arguments.{Given, flag_given, setting_given, name_given}

@@ -74,7 +74,7 @@ share_of_checked t c = share_in is_same t.pos.file t c
 abbrev pub programs_of : ToldNode → List Checked → List ℕ
 programs_of t checked = tag (map (share_of_checked t) checked)
 
--- the lines of a finding, with the names of the programs that have it, where another one that is checked has its file
+-- the lines of a finding, with the names of the programs that have it, where another one that is checked has its file, but not the finding
 abbrev pub tagged_line : Format → List Checked → List Source → ToldNode → LineNode
 tagged_line format checked sources t = finding_line format (programs_of t checked) sources t
 

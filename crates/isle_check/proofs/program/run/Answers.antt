@@ -1,6 +1,6 @@
-use Rattle.std.proofs.Common.{inl, inr, map, refl, sym, string_bytes, ◌∙◌}
+use Rattle.std.proofs.Common.{inl, inr, map, refl, sym, ◌∙◌}
 use Rattle.std.proofs.KnownBytes.{Keeps-refl}
-use Rattle.isle_cli.specs.Arguments.{given_of, setting_given, work_asked}
+use Rattle.isle_cli.specs.Arguments.{given_of, work_asked}
 use Rattle.isle_program_findings.proofs.CallLemmas.{aside-cut, aside-done, aside-quiet, aside-statuses, aside-told, aside-unwritten, aside-usage, asked-told, settled-usable}
 use Rattle.isle_check.proofs.ThisLemmas.{all}
 use Rattle.isle_check.specs.Doing.{AreAllOptions, AreOptions, CutsAsked, Does, IsProgram}
