@@ -1,33 +1,45 @@
 -- What is done with what was read.
-use Rattle.std.proofs.Common.{◌≡◌, ◌<◌, ◌≤◌, ℕ, List, [], Option, None, Some, append-nil, arith, inl, inr, length, refl, sym, ◌∙◌, true}
+use Rattle.std.proofs.Common.{◌≡◌, ◌<◌, ◌≤◌, ℕ, List, Option, arith, inl, inr, length, refl, subst, true}
 use Rattle.std.proofs.KnownBytes.{Keeps-refl}
-use Rattle.std.specs.Io.KnownBytes.{Appends, Keeps}
 use Rattle.isle_base_source.specs.Source.{Source}
 use Rattle.isle_cli.specs.Arguments.{Given}
 use Rattle.isle_cli.specs.Sources.{IsReadFrom}
 use Rattle.isle_cli.specs.Streams.{AppendsBeginning, WritesBeginning}
+use Rattle.isle_cli.specs.declared.failure.Failure.{Failure}
+use Rattle.isle_cli.specs.declared.failure.Failure.TheVariants as failures
 use Rattle.isle_cli.specs.declared.program.Program.{Program}
-use Rattle.isle_check.specs.Doing.{IsProgram, Tells, Told, told_status}
+use Rattle.isle_check.specs.Doing.{CutReport, Explains, ExplainsTexts, IsCut, IsProgram, Reads, Tells, Told, ToldReport}
 use Rattle.isle_check.specs.Options.{are_usable}
-use Rattle.isle_check.specs.Report.{IsReport, ReportNode}
 use Rattle.isle_program.specs.SeveralPrograms.{IsNote}
 
--- all texts can be read, and the report on them is told
-pub told_whole : (given : List Given) (program : Program) (sources : List Source) (lines : List ℕ) (report : ReportNode) (note : List ℕ) (status : ℕ) (input input' output output' faults faults' : Option (List ℕ))
-    → are_usable given ≡ true → IsProgram program
-    → IsReadFrom given program input input' sources lines → length lines ≡ 0
-    → IsReport given sources report note → status ≡ told_status report.errors → Appends output output' report.text → AppendsBeginning faults faults' note
-    → Tells given status input input' output output' faults faults'
-told_whole given program sources lines report note status input input' output output' faults faults' usable is_program read empty is ends written begun =
-    record {
-      usable = usable;
-      program = program;
-      is_program = is_program;
-      sources = sources;
-      lines = lines;
-      read = read;
-      holds = inr (empty, report, note, is, ends, written, begun);
-    }
+module _ (given : List Given) (program : Program) (sources : List Source) (lines : List ℕ) (input input' output output' faults faults' : Option (List ℕ))
+    (usable : are_usable given ≡ true) (is_program : IsProgram program) (read : IsReadFrom given program input input' sources lines) where
+  -- what is said of the texts is said of the arguments
+  reads : (Holds : List ℕ → List Source → Type 0) → Holds lines sources → Reads given input input' Holds
+  reads Holds holds =
+      record {
+        usable = usable;
+        program = program;
+        is_program = is_program;
+        sources = sources;
+        lines = lines;
+        read = read;
+        holds = holds;
+      }
+
+  -- all texts can be read, and the report on them is told
+  pub told_whole : length lines ≡ 0 → (texts : List Source) → texts ≡ sources → (status : ℕ)
+      → ToldReport given status output output' faults faults' texts → Tells given status input input' output output' faults faults'
+  told_whole empty texts same status told =
+      reads (Told given status output output' faults faults') (inr (empty, subst (ToldReport given status output output' faults faults') same told))
+
+  pub explained : length lines ≡ 0 → (texts : List Source) → texts ≡ sources → (failure : Failure) → ExplainsTexts failure given output output' texts
+      → Explains failure given input input' output output'
+  explained empty texts same (failures.Refused _) why = why
+  explained empty texts same failures.Usage why = absurd why
+  explained empty texts same failures.Input why = why
+  explained empty texts same failures.Memory why = why
+  explained empty texts same failures.Output why = reads (IsCut given output output') (empty, subst (CutReport given output output') same why)
 
 -- some text can't be read, and standard error got the lines that say so
 pub told_faults : (given : List Given) (program : Program) (sources : List Source) (lines : List ℕ) (input input' output faults faults' : Option (List ℕ))
@@ -48,17 +60,8 @@ told_faults given program sources lines input input' output faults faults' usabl
 -- nothing else but the note is told with status 0 or 1
 pub told-quiet : (given : List Given) (status : ℕ) (input input' output output' faults faults' : Option (List ℕ))
     → Tells given status input input' output output' faults faults' → status ≤ 1 → WritesBeginning faults faults' IsNote
-told-quiet given status input input' output output' faults faults' told low = cases told.holds
+told-quiet given status input input' output output' faults faults' tells low = cases tells.holds
   where
-    cases : Told given status output output' faults faults' told.lines told.sources → WritesBeginning faults faults' IsNote
+    cases : Told given status output output' faults faults' tells.lines tells.sources → WritesBeginning faults faults' IsNote
     cases (inl (some, three, keeps, begun)) = absurd (omega (arith, three, low))
-    cases (inr (empty, report, note, is, ends, written, begun)) = (note, (told.sources, is.definitions, is.noted), begun)
-
--- where nothing is told, the note is empty
-pub kept-quiet : (faults faults' : Option (List ℕ)) → Keeps faults faults' → WritesBeginning faults faults' IsNote
-kept-quiet faults faults' keeps = ([], ([], [], refl), begun faults faults' keeps)
-  where
-    begun : (old new : Option (List ℕ)) → Keeps old new → AppendsBeginning old new []
-    begun None new keeps = (0, tt)
-    begun (Some bytes) None keeps = absurd keeps
-    begun (Some bytes) (Some _) keeps = (0, keeps ∙ sym (append-nil bytes))
+    cases (inr (empty, told)) = (told.1, (tells.sources, told.2.definitions, told.2.noted), told.5)

@@ -1,4 +1,4 @@
-pub mod FailureLemmas
-pub mod EndLemmas
 pub mod DoingLemmas
+pub mod EndLemmas
 pub mod ProgramLemmas
+pub mod ThisLemmas

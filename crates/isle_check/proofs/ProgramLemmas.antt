@@ -1,20 +1,14 @@
--- The lines of one program more.
-use Rattle.std.proofs.Common.{◌≡◌, List, Bool, true, false, Option, ◌∷◌, filter}
-use Rattle.isle_base_source.specs.Source.{Source}
+-- The programs that are read, one program more.
+use Rattle.std.proofs.Common.{◌≡◌, List, true, false, Option, ◌∷◌}
 use Rattle.isle_base_source.specs.declared.error.Error.{Error}
-use Rattle.isle_cli.specs.Arguments.{Given}
-use Rattle.isle_check.specs.Programs.{AreAdded, AreLines, all_added, is_read, own}
-use Rattle.isle_check.specs.Report.{LineNode}
+use Rattle.isle_check.specs.Programs.{is_read, read_parts}
+use Rattle.isle_program_findings.specs.Programs.{Part}
 
--- of a program whose texts are read
-pub lines_more : (given : List Given) (sources : List Source) (refusals : List (Option Error)) (lines more : List LineNode) (has : List Bool) (parts : List (List Bool)) (all : List LineNode)
-    → is_read refusals 0 has ≡ true → AreLines given (own has 0 sources) more
-    → AreAdded given sources (all_added lines more) (filter (is_read refusals 0) parts) all
-    → AreAdded given sources lines (filter (is_read refusals 0) (has ∷ parts)) all
-lines_more given sources refusals lines more has parts all is own rest = rw is (more, own, rest)
+module _ (refusals : List (Option Error)) (Left : List Part → Type 0) (part : Part) (parts : List Part) where
+  -- one whose texts are read
+  pub read-more : is_read refusals 0 part.has ≡ true → Left (read_parts refusals (part ∷ parts)) → Left (part ∷ read_parts refusals parts)
+  read-more is left = rw is at left
 
--- of a program with a text that is refused
-pub lines_same : (given : List Given) (sources : List Source) (refusals : List (Option Error)) (lines : List LineNode) (has : List Bool) (parts : List (List Bool)) (all : List LineNode)
-    → is_read refusals 0 has ≡ false → AreAdded given sources lines (filter (is_read refusals 0) parts) all
-    → AreAdded given sources lines (filter (is_read refusals 0) (has ∷ parts)) all
-lines_same given sources refusals lines has parts all is rest = rw is rest
+  -- one with a text that is refused
+  pub read-same : is_read refusals 0 part.has ≡ false → Left (read_parts refusals (part ∷ parts)) → Left (read_parts refusals parts)
+  read-same is left = rw is at left

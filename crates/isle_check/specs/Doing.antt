@@ -1,26 +1,27 @@
 -- What the program does.
-use Rattle.std.specs.Prelude.{◌≡◌, ◌⊎◌, ◌<◌, ℕ, ◌==◌, List, [], ◌∷◌, Bool, true, false, if◌then◌else◌, Option, None, Some, codes, length, map}
+use Rattle.std.specs.Prelude.{◌≡◌, ◌⊎◌, ◌<◌, ℕ, List, [], ◌∷◌, Bool, true, false, if◌then◌else◌, Option, None, Some, codes, length, map}
 use Rattle.std.specs.Io.KnownBytes.{Appends, Keeps}
 use Rattle.isle_base_source.specs.Source.{Source}
-use Rattle.isle_cli.specs.Arguments.{Asked, Given, asked, help_asked, version_asked, work_asked}
-use Rattle.isle_cli.specs.Failure.{IsDiagnostic}
+use Rattle.isle_cli.specs.Arguments.{Asked, Given, help_asked, version_asked, work_asked}
 use Rattle.isle_cli.specs.Sources.{IsReadFrom}
 use Rattle.isle_cli.specs.Streams.{AppendsBeginning}
-use Rattle.isle_cli.specs.Usage.{IsDiagnosticOf}
 use Rattle.isle_cli.specs.declared.failure.Failure.{Failure}
-use Rattle.isle_cli.specs.declared.failure.Failure.TheVariants as failures
 use Rattle.isle_cli.specs.declared.arguments.Options.{Options}
 use Rattle.isle_cli.specs.declared.program.Program.{Program}
 use Rattle.isle_check.specs.declared.options.TheConstants.{HELP, VERSION}
 use Rattle.isle_check.specs.Options.{are_usable}
 use Rattle.isle_check.specs.Programs.{IsProgramsReport}
-use Rattle.isle_check.specs.Report.{IsReport, ReportNode}
+use Rattle.isle_check.specs.Report.{IsReport}
+use Rattle.isle_program_findings.specs.Calls as calls
+use Rattle.isle_program_findings.specs.Calls.{ExplainsBy}
+use Rattle.isle_program_findings.specs.Programs.{Part}
+use Rattle.isle_program_findings.specs.ReportView.{ReportNode}
 use Rattle.isle_program_manifest.specs.Levels.{NameLevel, with_levels}
 use Rattle.isle_program.specs.reports.Colours.{settled}
 
--- the status of a report with this many errors
-abbrev pub told_status : ℕ → ℕ
-told_status errors = if errors == 0 then 0 else 1
+-- the status of a report without errors, or with some
+abbrev pub told_status : Bool → ℕ
+told_status is_clean = if is_clean then 0 else 1
 
 -- this program, and its options
 abbrev pub IsProgram : Program → Type 0
@@ -41,17 +42,15 @@ AreAllOptions options =
 
 -- the words ask this of the program
 abbrev pub Ask : List (List ℕ) → Option Asked → Type 0
-Ask words what = (options : Options) × AreOptions options × (asked options words ≡ what)
+Ask words what = calls.Ask AreOptions words what
 
 -- the text that goes with a status past 1
 abbrev pub IsFailureText : ℕ → List ℕ → Type 0
-IsFailureText status text = (program : Program) × IsProgram program × IsDiagnostic program status text
+IsFailureText status text = calls.IsFailureText IsProgram status text
 
 -- the same, where the program is called with these words
 abbrev pub IsFailureTextOf : (words : List (List ℕ)) → (status : ℕ) → (text : List ℕ) → Type 0
-IsFailureTextOf words status text =
-    (program : Program) × (own : Options) × (all : Options) × IsProgram program × AreOptions own × AreAllOptions all
-    × IsDiagnosticOf program own all words status text
+IsFailureTextOf words status text = calls.IsFailureTextOf IsProgram AreOptions AreAllOptions words status text
 
 -- What was read of what the arguments name; Holds is said of the lines about what can't be read, and of the texts.
 pub record Reads (given : List Given) (input input' : Option (List ℕ)) (Holds : List ℕ → List Source → Type 0) : Type 0 where
@@ -63,32 +62,41 @@ pub record Reads (given : List Given) (input input' : Option (List ℕ)) (Holds 
   pub read : IsReadFrom given program input input' sources lines
   pub holds : Holds lines sources
 
+-- the report is told, and this is its status, and standard error got the note, as far as it took it
+abbrev pub ToldReport : List Given → ℕ → (output output' faults faults' : Option (List ℕ)) → List Source → Type 0
+ToldReport given status output output' faults faults' sources =
+    (report : ReportNode) × (note : List ℕ) × IsReport given sources report note × (status ≡ told_status report.is_clean)
+    × Appends output output' report.text × AppendsBeginning faults faults' note
+
 -- Some text can't be read, and standard error got the lines that say so, as far as it took them, and the output nothing;
--- or the report is told, and this is its status, and standard error got the note, as far as it took it.
+-- or the report is told.
 abbrev pub Told : List Given → ℕ → (output output' faults faults' : Option (List ℕ)) → List ℕ → List Source → Type 0
 Told given status output output' faults faults' lines sources =
     ((0 < length lines) × (status ≡ 3) × Keeps output output' × AppendsBeginning faults faults' lines)
-    ⊎ ((length lines ≡ 0) × (report : ReportNode) × (note : List ℕ) × IsReport given sources report note × (status ≡ told_status report.errors)
-    × Appends output output' report.text × AppendsBeginning faults faults' note)
+    ⊎ ((length lines ≡ 0) × ToldReport given status output output' faults faults' sources)
 
 abbrev pub Tells : List Given → ℕ → (input input' output output' faults faults' : Option (List ℕ)) → Type 0
 Tells given status input input' output output' faults faults' = Reads given input input' (Told given status output output' faults faults')
 
 -- the output got a beginning of the report
+abbrev pub CutReport : List Given → (output output' : Option (List ℕ)) → List Source → Type 0
+CutReport given output output' sources =
+    (report : ReportNode) × (note : List ℕ) × IsReport given sources report note × AppendsBeginning output output' report.text
+
 abbrev pub IsCut : List Given → (output output' : Option (List ℕ)) → List ℕ → List Source → Type 0
-IsCut given output output' lines sources =
-    (length lines ≡ 0) × (report : ReportNode) × (note : List ℕ) × IsReport given sources report note × AppendsBeginning output output' report.text
+IsCut given output output' lines sources = (length lines ≡ 0) × CutReport given output output' sources
 
 abbrev pub Cuts : List Given → (input input' output output' : Option (List ℕ)) → Type 0
 Cuts given input input' output output' = Reads given input input' (IsCut given output output')
 
+-- what a failure says of the output, of texts that were read
+abbrev pub ExplainsTexts : Failure → List Given → (output output' : Option (List ℕ)) → List Source → Type 0
+ExplainsTexts failure given output output' sources = ExplainsBy ⊥ (Keeps output output') (CutReport given output output' sources) failure
+
 -- what a failure says of the input and the output
 abbrev pub Explains : Failure → List Given → (input input' output output' : Option (List ℕ)) → Type 0
-Explains (failures.Refused text) given input input' output output' = ⊥
-Explains failures.Usage given input input' output output' = (are_usable given ≡ false) × Keeps input input' × Keeps output output'
-Explains failures.Input given input input' output output' = ⊥
-Explains failures.Memory given input input' output output' = Keeps output output'
-Explains failures.Output given input input' output output' = Cuts given input input' output output'
+Explains failure given input input' output output' =
+    ExplainsBy ((are_usable given ≡ false) × Keeps input input' × Keeps output output') (Keeps output output') (Cuts given input input' output output') failure
 
 -- the words are none of the usage, or name a kind, a format or a choice of colours that there is none of
 abbrev pub IsMisuse : List (List ℕ) → Type 0
@@ -96,7 +104,7 @@ IsMisuse words = Ask words None ⊎ ((given : List Given) × Ask words (Some (wo
 
 -- the words ask something of the program, and P holds of it
 abbrev pub AsAsked : List (List ℕ) → (Asked → Type 0) → Type 0
-AsAsked words P = (what : Asked) × Ask words (Some what) × P what
+AsAsked words P = calls.AsAsked AreOptions words P
 
 -- what is asked for is done, with this status, and with colours if no option says otherwise, or without
 abbrev pub Does : (shows_colours : Bool) → Asked → ℕ → (input input' output output' faults faults' : Option (List ℕ)) → Type 0
@@ -116,17 +124,17 @@ CutsAsked shows_colours (work_asked given) input input' output output' = Cuts (s
 pub record TellsReport (given : List Given) (status : ℕ) (output output' : Option (List ℕ)) : Type 0 where
   pub usable : are_usable given ≡ true
   pub sources : List Source
-  pub parts : List (List Bool)
+  pub parts : List Part
   pub report : ReportNode
   pub is_report : IsProgramsReport given sources parts report
-  pub ends : status ≡ told_status report.errors
+  pub ends : status ≡ told_status report.is_clean
   pub written : Appends output output' report.text
 
 -- the output got a beginning of it
 pub record CutsReport (given : List Given) (output output' : Option (List ℕ)) : Type 0 where
   pub usable : are_usable given ≡ true
   pub sources : List Source
-  pub parts : List (List Bool)
+  pub parts : List Part
   pub report : ReportNode
   pub is_report : IsProgramsReport given sources parts report
   pub begun : AppendsBeginning output output' report.text
@@ -148,15 +156,7 @@ Ends given status output output' = ((status ≡ 2 ⊎ status ≡ 3) × Keeps out
 
 -- what a failure says of the output
 abbrev pub ExplainsReport : Failure → List Given → (output output' : Option (List ℕ)) → Type 0
-ExplainsReport (failures.Refused text) given output output' = ⊥
-ExplainsReport failures.Usage given output output' = Keeps output output'
-ExplainsReport failures.Input given output output' = ⊥
-ExplainsReport failures.Memory given output output' = Keeps output output'
-ExplainsReport failures.Output given output output' = CutsReport given output output'
+ExplainsReport failure given output output' = ExplainsBy (Keeps output output') (Keeps output output') (CutsReport given output output') failure
 
 abbrev pub ExplainsEnd : Failure → List Given → (output output' : Option (List ℕ)) → Type 0
-ExplainsEnd (failures.Refused text) given output output' = ⊥
-ExplainsEnd failures.Usage given output output' = Keeps output output'
-ExplainsEnd failures.Input given output output' = ⊥
-ExplainsEnd failures.Memory given output output' = Keeps output output'
-ExplainsEnd failures.Output given output output' = CutsPrograms given output output'
+ExplainsEnd failure given output output' = ExplainsBy (Keeps output output') (Keeps output output') (CutsPrograms given output output') failure

@@ -10,13 +10,16 @@ use Rattle.isle_cli.specs.Arguments.{Given}
 use Rattle.isle_check_core.specs.Findings.{FindingNode, findings, is_error}
 use Rattle.isle_check_core.specs.FindingWords.{finding_notes, kind_words}
 use Rattle.isle_check_messages.specs.Notes.{NoteNode}
-use Rattle.isle_check.specs.Options.{counts_as_error, is_allowed}
+use Rattle.isle_check_messages.specs.Words.{WordsNode}
+use Rattle.isle_check.specs.Options.{is_allowed}
+use Rattle.isle_program_findings.specs.Naming.{counts}
 use Rattle.isle_program.specs.Reading.{IsReading, refused_count}
 use Rattle.isle_program.specs.SeveralPrograms.{several_programs_note}
 use Rattle.isle_program.specs.reports.Formats.{format_in}
 use Rattle.isle_program.specs.reports.Lines.{told_line}
 use Rattle.isle_program.specs.reports.Messages.{MessageNode}
 use Rattle.isle_program.specs.reports.Refusals.{is_refused, told_count, told_refusal_of}
+use Rattle.isle_program_findings.specs.ReportView.{ReportNode}
 use Rattle.isle_program.specs.declared.reports.format.Format.{Format}
 use Rattle.isle_program.specs.declared.reports.message.Severity.{Severity}
 use Rattle.isle_program.specs.declared.reports.message.Severity.TheVariants as severities
@@ -26,10 +29,12 @@ pub record LineNode : Type 0 where
   pub is_error : Bool
   pub text : List ℕ
 
-pub record ReportNode : Type 0 where
-  pub text : List ℕ
-  -- how many lines tell errors
-  pub errors : ℕ
+-- what is told of a finding, with the lines of its notes
+pub record ToldNode : Type 0 where
+  pub pos : Pos
+  pub is_error : Bool
+  pub words : WordsNode
+  pub notes : List ℕ
 
 -- the line of a message about a position, if there is its text
 abbrev pub told_of : Format → Option Source → (offset : ℕ) → MessageNode → List ℕ
@@ -43,9 +48,9 @@ abbrev pub severity : Bool → Severity
 severity true = severities.Error
 severity false = severities.Warning
 
-abbrev pub finding_message : (is_error : Bool) → FindingNode → MessageNode
-finding_message is_error f =
-    record { severity = severity is_error; kind = (kind_words f.kind).name; text = (kind_words f.kind).message; programs = [] }
+-- a message that is told of these programs
+abbrev pub finding_message : (programs : List ℕ) → ToldNode → MessageNode
+finding_message programs t = record { severity = severity t.is_error; kind = t.words.name; text = t.words.message; programs = programs }
 
 -- a note has no kind
 abbrev pub note_message : NoteNode → MessageNode
@@ -54,31 +59,44 @@ note_message n = record { severity = severities.Note; kind = []; text = n.messag
 abbrev pub note_line : Format → List Source → NoteNode → List ℕ
 note_line format sources n = told_at format sources n.pos (note_message n)
 
-abbrev pub finding_line : Format → (is_error : Bool) → List Source → FindingNode → LineNode
-finding_line format is_error sources f =
-    record {
-      is_error = is_error;
-      text = told_at format sources f.pos (finding_message is_error f) ++ flat_map (note_line format sources) (finding_notes f);
-    }
+abbrev pub finding_line : Format → (programs : List ℕ) → List Source → ToldNode → LineNode
+finding_line format programs sources t =
+    record { is_error = t.is_error; text = told_at format sources t.pos (finding_message programs t) ++ t.notes }
 
 -- a finding is told as an error
 abbrev pub is_told_as_error : List Given → FindingNode → Bool
-is_told_as_error given f = counts_as_error (is_error f.kind) given (kind_words f.kind).name
+is_told_as_error given f = counts (is_error f.kind) given (kind_words f.kind).name
 
 -- where the lines of each text end
 abbrev pub line_maps : List Source → List (List ℕ)
 line_maps sources = map (λ s. line_ends s.text) sources
 
--- the line of a finding whose kind isn't allowed
-abbrev pub line_for : List Given → List Source → FindingNode → List LineNode
-line_for given sources f = if is_allowed given (kind_words f.kind).name then [] else finding_line (format_in given) (is_told_as_error given f) sources f ∷ []
+abbrev pub told_finding : List Given → List Source → FindingNode → ToldNode
+told_finding given sources f =
+    record {
+      pos = f.pos;
+      is_error = is_told_as_error given f;
+      words = kind_words f.kind;
+      notes = flat_map (note_line (format_in given) sources) (finding_notes f);
+    }
 
-abbrev pub finding_lines : List Given → List Source → List FindingNode → List LineNode
-finding_lines given sources fs = flat_map (line_for given sources) fs
+-- of a finding whose kind isn't allowed
+abbrev pub told_for : List Given → List Source → FindingNode → List ToldNode
+told_for given sources f = if is_allowed given (kind_words f.kind).name then [] else told_finding given sources f ∷ []
+
+abbrev pub told_all : List Given → List Source → List FindingNode → List ToldNode
+told_all given sources fs = flat_map (told_for given sources) fs
+
+-- what is told of the findings in these definitions
+abbrev pub told_in : List Given → List Source → List Definition → List ToldNode
+told_in given sources ds = told_all given sources (findings ds)
+
+abbrev pub finding_lines : Format → List Source → List ToldNode → List LineNode
+finding_lines format sources told = map (finding_line format [] sources) told
 
 -- the lines of what is found in these definitions
 abbrev pub lines_of : List Given → List Source → List Definition → List LineNode
-lines_of given sources ds = finding_lines given sources (findings ds)
+lines_of given sources ds = finding_lines (format_in given) sources (told_in given sources ds)
 
 -- how many lines tell errors, or how many tell warnings
 abbrev pub counts_as : Bool → LineNode → Bool
@@ -91,12 +109,12 @@ count_of as_error lines = count_by (counts_as as_error) lines
 abbrev pub joined : List LineNode → List ℕ
 joined lines = flat_map (λ line. line.text) lines
 
--- the report that has these lines
+-- the report that has these lines; it is clean if none tells an error
 abbrev pub rendered : Format → List LineNode → ReportNode
 rendered format lines =
     record {
       text = joined lines ++ told_count format (count_of true lines) (count_of false lines);
-      errors = count_of true lines;
+      is_clean = count_of true lines == 0;
     }
 
 -- the line of a text that spells no tree

@@ -1,16 +1,17 @@
 //! The programs of a manifest, for any files and writers.
 
-ghost use Rattle.std.specs.Prelude.{◌≡◌, ◌≤◌, ◌⊎◌, IfErr, IfOk, map};
+ghost use Rattle.std.specs.Prelude.{◌≡◌, ◌≤◌, ◌⊎◌, IfErr, IfOk, map, true};
 ghost use Rattle.std.specs.Io.KnownBytes.{Keeps};
 ghost use Rattle.isle_cli.specs.Arguments.{given_of};
 ghost use Rattle.isle_check.specs.Doing.{CutsPrograms, Ends, EndsReport, ExplainsEnd};
 ghost use Rattle.isle_check.specs.Doing.{ExplainsReport, TellsPrograms};
+ghost use Rattle.isle_check.specs.Options.{are_usable};
 ghost use Rattle.isle_program_manifest.specs.Levels.{name_level_of, with_levels};
 ghost use Rattle.isle_program.specs.reports.Colours.{settled};
 
 use crate::options::{are_usable, unknown_kind};
 use crate::program::{PROGRAM, status_of};
-use crate::programs::{Part, report_on_programs};
+use crate::programs::report_on_programs;
 use isle_cli::arguments::{Argument, EXCLUDE_OPTION, Options};
 use isle_cli::failure::Failure;
 use isle_cli::program::{put, report};
@@ -18,6 +19,7 @@ use isle_cli::sources::Source;
 use isle_cli::streams::{Streams, write_whole};
 use isle_program::reports::colours::{COLOUR_OPTION, settle};
 use isle_program::reports::format::FORMAT_OPTION;
+use isle_program_findings::programs::Part;
 use isle_program_manifest::asking::{
     ALL_OPTION, NAME_OPTION, asked_choice, read_texts, tell_choice,
 };
@@ -137,36 +139,64 @@ fn check_chosen<R: Files + AllocGlobal + Clone + Drop, I, W: Write, E: Write>(
     if !are_usable(arguments) {
         return Err(Failure::Usage);
     }
-    let mut notes = missing_notes(rt, &PROGRAM, programs)?;
-    notes.push_str(unchecked_notes(rt.alloc(), programs)?.as_str())?;
+    let notes = notes_on(rt, programs)?;
     let texts = read_texts(rt, &PROGRAM, programs)?;
     let _ = write_whole(&mut streams.faults, notes.as_bytes());
     if !texts.faults.is_empty() {
         let _ = write_whole(&mut streams.faults, texts.faults.as_bytes());
         return Ok(3);
     }
-    let parts = parts_of(rt.alloc(), programs, &texts.list)?;
-    let told = report_on_programs(rt.alloc(), &texts.list, &parts, arguments)?;
-    match put(&mut streams.output, told.text.as_str()) {
-        Ok(()) => Ok(status_of(told.errors)),
-        Err(_) => Err(Failure::Output),
+    check_texts(
+        rt.alloc(),
+        programs,
+        &texts.list,
+        arguments,
+        &mut streams.output,
+    )
+}
+
+/// Checks programs among texts as the arguments say, and returns the exit status.
+fn check_texts<W: Write>(
+    alloc: Global,
+    programs: &[Chosen],
+    texts: &[Source],
+    arguments: &[Argument],
+    output: &mut W,
+) -> Result<u8, Failure>
+    requires { are_usable (map given_of arguments.now) ≡ true }
+    ensures ok { IfOk result (λ status. EndsReport (map given_of arguments.now) status
+        (W.contents output.old) (W.contents output.new)) }
+    ensures err { IfErr result (λ failure. ExplainsReport failure (map given_of arguments.now)
+        (W.contents output.old) (W.contents output.new)) }
+{
+    let parts = parts_of(alloc, programs, texts)?;
+    let told = report_on_programs(alloc, texts, &parts, arguments)?;
+    match put(output, told.text.as_str()) {
+        Ok(()) => Ok(status_of(told.is_clean)),
+        Err(failure) => Err(failure),
     }
 }
 
-/// Returns a line for each program that lacks files.
-fn unchecked_notes(alloc: Global, programs: &[Chosen]) -> Result<String, AllocError> {
-    let mut notes = String::new(alloc);
+/// Returns a line for each entry without a file, and for each program that lacks files.
+fn notes_on<R: Files + AllocGlobal + Clone + Drop>(
+    rt: &R,
+    programs: &[Chosen],
+) -> Result<String, AllocError> {
+    let mut notes = missing_notes(rt, &PROGRAM, programs)?;
     for program in programs {
         if !is_whole(program) {
-            let tool = PROGRAM.name;
-            let name = program.name.as_str();
-            let note = format!(in alloc;
-                "{tool}: note: program '{name}' lacks files: not checked\n"
-            )?;
-            notes.push_str(note.as_str())?;
+            add_unchecked(rt.alloc(), program, &mut notes)?;
         }
     }
     Ok(notes)
+}
+
+/// Adds a line for a program that lacks files.
+fn add_unchecked(alloc: Global, program: &Chosen, notes: &mut String) -> Result<(), AllocError> {
+    let tool = PROGRAM.name;
+    let name = program.name.as_str();
+    let note = format!(in alloc; "{tool}: note: program '{name}' lacks files: not checked\n")?;
+    notes.push_str(note.as_str())
 }
 
 /// Returns whether each entry of a program stands for a file.
@@ -187,9 +217,16 @@ fn parts_of(alloc: Global, programs: &[Chosen], texts: &[Source]) -> Result<Vec<
 
 /// Returns a program by which of the texts are its own.
 fn part_of(alloc: Global, program: &Chosen, texts: &[Source]) -> Result<Part, AllocError> {
+    let has = has_texts(alloc, &program.listed.paths, texts)?;
+    let name = program.name.clone()?;
+    Ok(Part { name, has })
+}
+
+/// Returns for each text whether it is one of these files.
+fn has_texts(alloc: Global, paths: &[String], texts: &[Source]) -> Result<Vec<bool>, AllocError> {
     let mut has = Vec::new(alloc);
     for text in texts {
-        has.push(has_file(&program.listed.paths, text.name.as_str()))?;
+        has.push(has_file(paths, text.name.as_str()))?;
     }
-    Ok(Part { has })
+    Ok(has)
 }

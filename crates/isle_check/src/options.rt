@@ -3,8 +3,7 @@
 ghost use Rattle.std.specs.Prelude.{◌≡◌, codes, map};
 ghost use Rattle.std.specs.Option.{option_copied};
 ghost use Rattle.isle_cli.specs.Arguments.{given_of};
-ghost use Rattle.isle_check.specs.Options.{are_usable, counts_after, counts_as_error, is_allowed};
-ghost use Rattle.isle_check.specs.Options.{is_kind_option, is_kind_usable, is_naming, is_usable};
+ghost use Rattle.isle_check.specs.Options.{are_usable, is_kind_option, is_kind_usable, is_usable};
 ghost use Rattle.isle_check.specs.Options.{unknown_kind};
 ghost use Rattle.isle_program_manifest.specs.Levels.{name_level_of};
 
@@ -193,51 +192,4 @@ fn is_kind_option(option: &str) -> bool
     ensures { result ≡ is_kind_option option.now }
 {
     option == "--allow" || option == "--warn" || option == "--deny"
-}
-
-/// Returns whether findings of this kind are errors, if they are by themselves, or not: the last
-/// one of `--warn` and `--deny` that names it counts.
-pub fn counts_as_error(arguments: &[Argument], kind: &str, is_error: bool) -> bool
-    ensures { result ≡ counts_as_error is_error (map given_of arguments.now) kind.now }
-{
-    let mut counts = is_error;
-    for argument in arguments {
-        counts = counts_after(argument, kind, counts);
-    }
-    counts
-}
-
-/// The same after an argument, if they are errors before it, or not.
-fn counts_after(argument: &Argument, kind: &str, before: bool) -> bool
-    ensures { result ≡ counts_after kind.now before (given_of argument.now) }
-{
-    if is_naming(argument, "--warn", kind) {
-        return false;
-    }
-    if is_naming(argument, "--deny", kind) {
-        return true;
-    }
-    before
-}
-
-/// Returns whether `--allow` names this kind of finding.
-pub fn is_allowed(arguments: &[Argument], kind: &str) -> bool
-    ensures { result ≡ is_allowed (map given_of arguments.now) kind.now }
-{
-    for argument in arguments {
-        if is_naming(argument, "--allow", kind) {
-            return true;
-        }
-    }
-    false
-}
-
-/// Returns whether an argument is this option with this kind.
-fn is_naming(argument: &Argument, option: &str, kind: &str) -> bool
-    ensures { result ≡ is_naming option.now kind.now (given_of argument.now) }
-{
-    match argument {
-        Argument::Setting(given, value) => given.as_str() == option && value.as_str() == kind,
-        Argument::Flag(_) | Argument::Name(_) => false,
-    }
 }

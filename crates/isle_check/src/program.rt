@@ -4,10 +4,11 @@ ghost use Rattle.std.specs.Prelude.{◌≡◌, ◌≢◌, ◌≤◌, ◌⊎◌, 
 ghost use Rattle.std.specs.Prelude.{string_bytes};
 ghost use Rattle.std.specs.Io.KnownBytes.{Keeps};
 ghost use Rattle.isle_cli.specs.Arguments.{given_of};
+ghost use Rattle.isle_cli.specs.Sources.{source_of};
 ghost use Rattle.isle_cli.specs.Streams.{WritesBeginning};
-ghost use Rattle.isle_check.specs.Doing.{AsAsked, Cuts, CutsAsked, Does, Explains};
+ghost use Rattle.isle_check.specs.Doing.{AsAsked, Cuts, CutsAsked, Does, Explains, ExplainsTexts};
 ghost use Rattle.isle_check.specs.Doing.{IsFailureText, IsFailureTextOf, IsMisuse, Tells};
-ghost use Rattle.isle_check.specs.Doing.{told_status};
+ghost use Rattle.isle_check.specs.Doing.{ToldReport, told_status};
 ghost use Rattle.isle_check.specs.Options.{are_usable};
 ghost use Rattle.isle_program.specs.SeveralPrograms.{IsNote};
 ghost use Rattle.isle_program.specs.reports.Colours.{settled};
@@ -15,14 +16,16 @@ ghost use Rattle.isle_program.specs.reports.Colours.{settled};
 use crate::listing;
 use crate::options::{HELP, VERSION, are_usable};
 use crate::report::report_on;
-use isle_cli::arguments::{Argument, EXCLUDE_OPTION, Options, Request, requested};
+use isle_cli::arguments::{Argument, EXCLUDE_OPTION, Options};
 use isle_cli::failure::Failure;
-use isle_cli::program::{Program, put, report, tell};
-use isle_cli::sources::read_sources;
+use isle_cli::program::{Program, report};
+use isle_cli::sources::{Source, read_sources};
 use isle_cli::streams::{Streams, write_whole};
-use isle_cli::usage::report_words;
 use isle_program::reports::colours::{COLOUR_OPTION, settle};
 use isle_program::reports::format::FORMAT_OPTION;
+use isle_program_findings::calls::{requested_work, tell_aside};
+use isle_program_findings::report::write_report;
+use std::alloc::Global;
 use std::fs::Files;
 use std::io::{Read, Write};
 
@@ -103,30 +106,15 @@ pub fn run<R: Files + AllocGlobal + Clone + Drop, I: Read, W: Write, E: Write>(
         (E.contents streams.new.faults) (IsFailureTextOf (map string_bytes words.now) result) }
     ensures statuses { result ≤ 5 }
 {
-    match requested(rt.alloc(), &OPTIONS, words) {
-        Ok(Request::Help) => {
-            tell(
-                &PROGRAM,
-                PROGRAM.help,
-                &mut streams.output,
-                &mut streams.faults,
-            )
-        }
-        Ok(Request::Version) => {
-            tell(
-                &PROGRAM,
-                PROGRAM.version,
-                &mut streams.output,
-                &mut streams.faults,
-            )
-        }
-        Ok(Request::Work(arguments)) => work(rt, arguments, shows_colours, streams),
-        Err(failure) => {
-            report_words(
+    match requested_work(rt.alloc(), &OPTIONS, words) {
+        Ok(arguments) => work(rt, arguments, shows_colours, streams),
+        Err(aside) => {
+            tell_aside(
                 &PROGRAM,
                 &listing::OPTIONS,
                 words,
-                &failure,
+                &aside,
+                &mut streams.output,
                 &mut streams.faults,
             )
         }
@@ -216,18 +204,47 @@ fn check_files_settled<R: Files + AllocGlobal + Clone + Drop, I: Read, W: Write,
         let _ = write_whole(&mut streams.faults, sources.faults.as_bytes());
         return Ok(3);
     }
-    let told = report_on(rt.alloc(), &sources.list, arguments)?;
-    match put(&mut streams.output, told.report.text.as_str()) {
-        Ok(()) => {}
-        Err(_) => return Err(Failure::Output),
-    }
-    let _ = write_whole(&mut streams.faults, told.note.as_bytes());
-    Ok(status_of(told.report.errors))
+    check_texts(
+        rt.alloc(),
+        &sources.list,
+        arguments,
+        &mut streams.output,
+        &mut streams.faults,
+    )
 }
 
-/// Returns the exit status of a report with this many errors.
-pub fn status_of(errors: usize) -> u8
-    ensures { result ≡ told_status errors }
+/// Checks texts as the arguments say, and returns the exit status.
+fn check_texts<W: Write, E: Write>(
+    alloc: Global,
+    sources: &[Source],
+    arguments: &[Argument],
+    output: &mut W,
+    faults: &mut E,
+) -> Result<u8, Failure>
+    ensures ok { IfOk result (λ status. ToldReport (map given_of arguments.now) status
+        (W.contents output.old) (W.contents output.new)
+        (E.contents faults.old) (E.contents faults.new) (map source_of sources.now)) }
+    ensures err { IfErr result (λ failure. ExplainsTexts failure (map given_of arguments.now)
+        (W.contents output.old) (W.contents output.new) (map source_of sources.now)) }
+    ensures quiet { MatchResult result
+        (λ status. (status ≤ 3) × (status ≢ 2))
+        (λ _. Keeps (E.contents faults.old) (E.contents faults.new)) }
 {
-    if errors == 0 { 0 } else { 1 }
+    let told = report_on(alloc, sources, arguments)?;
+    match write_report(
+        told.report.text.as_str(),
+        told.note.as_str(),
+        output,
+        faults,
+    ) {
+        Ok(()) => Ok(status_of(told.report.is_clean)),
+        Err(failure) => Err(failure),
+    }
+}
+
+/// Returns the exit status of a report that is clean, or not.
+pub fn status_of(is_clean: bool) -> u8
+    ensures { result ≡ told_status is_clean }
+{
+    if is_clean { 0 } else { 1 }
 }

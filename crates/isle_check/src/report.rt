@@ -1,6 +1,7 @@
 //! The report on a program.
 
-ghost use Rattle.std.specs.Prelude.{◌≡◌, ◌++◌, IfErr, IfOk, OnOk, false, map, string_bytes};
+ghost use Rattle.std.specs.Prelude.{◌≡◌, ◌++◌, ◌∷◌, [], IfErr, IfOk, OnOk, false, map};
+ghost use Rattle.std.specs.Prelude.{string_bytes};
 ghost use Rattle.isle_ast.specs.MacroArgs.{definitions_have_macro_arg};
 ghost use Rattle.isle_ast.specs.TreeView.{definitions_of};
 ghost use Rattle.std.specs.List.{flat_map};
@@ -8,31 +9,32 @@ ghost use Rattle.isle_check_messages.specs.Notes.{notes_of};
 ghost use Rattle.isle_cli.specs.Arguments.{given_of};
 ghost use Rattle.isle_cli.specs.Sources.{source_of};
 ghost use Rattle.isle_cli.specs.declared.failure.Failure.TheVariants.{Memory};
+ghost use Rattle.isle_check_core.specs.FindingWords.{finding_notes};
 ghost use Rattle.isle_check_core.specs.Views.{finding_of, findings_of};
-ghost use Rattle.isle_check.specs.Report.{IsReport, count_of, finding_lines, joined};
-ghost use Rattle.isle_check.specs.Report.{line_for, line_maps, lines_of, refused, rendered};
-ghost use Rattle.isle_check.specs.Report.{refused_lines};
-ghost use Rattle.isle_check.specs.Report.{severity};
-ghost use Rattle.isle_check.specs.Report.{note_line, report_in, told_at};
-ghost use Rattle.isle_check.specs.ReportView.{lines_at, report_of};
+ghost use Rattle.isle_check.specs.Report.{IsReport, count_of, finding_line, finding_lines, joined};
+ghost use Rattle.isle_check.specs.Report.{line_maps, lines_of, note_line, refused, refused_lines};
+ghost use Rattle.isle_check.specs.Report.{rendered, report_in, severity, told_all, told_at};
+ghost use Rattle.isle_check.specs.Report.{told_for, told_in};
+ghost use Rattle.isle_check.specs.ReportView.{lines_at, told_node};
 ghost use Rattle.isle_program.specs.Reading.{IsReading};
 ghost use Rattle.isle_program.specs.reports.Messages.{message_of};
+ghost use Rattle.isle_program_findings.specs.ReportView.{report_of};
 
-use crate::options::{counts_as_error, is_allowed};
 use isle_ast::ast::Def;
 use isle_base::lexer::Pos;
 use isle_base_source::error::Error;
 use isle_base_source::files::LineMap;
-use isle_check_core::{Finding, Note, check};
+use isle_check_core::{Finding, Note, Words, check};
 use isle_cli::arguments::Argument;
 use isle_cli::failure::Failure;
 use isle_cli::sources::Source;
 use isle_program::reports::format::{Format, format_of};
 use isle_program::reports::lines::told_line;
 use isle_program::reports::message::{Message, Severity};
-use isle_program::reports::refusals::{is_refused, told_count, told_refusal_of};
-use isle_program::several_programs::several_programs_note;
+use isle_program::reports::refusals::{is_refused, told_refusal_of};
 use isle_program::trees::{Reading, drop_reading, read_all, refused_count};
+use isle_program_findings::naming::{counts, is_named};
+use isle_program_findings::report::{NotedReport, Report, add_count, noted};
 use std::alloc::{AllocError, Global};
 
 /// A line of a report.
@@ -44,26 +46,20 @@ pub struct Line {
     pub text: String,
 }
 
-/// A report.
+/// What is told of a finding.
 #[derive(Drop)]
-pub struct Report {
-    /// The lines, and for people one that counts them. It is empty if there are none.
-    pub text: String,
-    /// How many lines tell errors.
-    pub errors: usize,
-}
-
-/// A report on texts that are taken for one program.
-#[derive(Drop)]
-pub struct NotedReport {
-    pub report: Report,
-    /// The note that they look like several programs; empty if they do not.
-    pub note: String,
+pub struct Told {
+    pub pos: Pos,
+    /// Whether it is told as an error, and not as a warning.
+    pub is_error: bool,
+    pub words: Words,
+    /// The lines of its notes, each with its newline.
+    pub notes: String,
 }
 
 /// Returns the report on a program: a line for each text that does not parse, or else one for each
 /// finding, in order, without the kinds that `--allow` names, in the format that
-/// `--message-format` names. The only failure is `Memory`.
+/// `--message-format` names. It is clean if no line tells an error. The only failure is `Memory`.
 pub fn report_on(
     alloc: Global,
     sources: &[Source],
@@ -92,8 +88,7 @@ fn report_on_reading(
         (map source_of sources.now) (report_of noted.report) (string_bytes noted.note)) }
 {
     let report = report_in(alloc, sources, arguments, reading)?;
-    let note = several_programs_note(alloc, sources, &reading.defs)?;
-    Ok(NotedReport { report, note })
+    noted(alloc, sources, reading, report)
 }
 
 fn report_in(
@@ -116,7 +111,7 @@ fn report_in(
 }
 
 /// Returns the report on texts some of which do not parse.
-pub fn refused_report(
+fn refused_report(
     alloc: Global,
     format: Format,
     sources: &[Source],
@@ -153,7 +148,7 @@ pub fn refused_lines(
 }
 
 /// Returns the lines of the findings in these definitions.
-pub fn lines_of(
+fn lines_of(
     alloc: Global,
     sources: &[Source],
     arguments: &[Argument],
@@ -164,13 +159,13 @@ pub fn lines_of(
         ≡ lines_of (map given_of arguments.now) (map source_of sources.now)
         (definitions_of defs.now)) }
 {
-    let found = check(alloc, defs)?;
     let maps = line_maps(alloc, sources)?;
-    finding_lines(alloc, sources, &maps, arguments, &found)
+    let told = told_in(alloc, sources, &maps, arguments, defs)?;
+    finding_lines(alloc, format_of(arguments), sources, &maps, &told)
 }
 
 /// Returns the line map of each text.
-fn line_maps(alloc: Global, sources: &[Source]) -> Result<Vec<LineMap>, AllocError>
+pub fn line_maps(alloc: Global, sources: &[Source]) -> Result<Vec<LineMap>, AllocError>
     ensures { IfOk result (λ maps. maps.items ≡ line_maps (map source_of sources.now)) }
 {
     let mut maps = Vec::new(alloc);
@@ -180,56 +175,140 @@ fn line_maps(alloc: Global, sources: &[Source]) -> Result<Vec<LineMap>, AllocErr
     Ok(maps)
 }
 
-/// Returns the lines of findings, in order, without the kinds that `--allow` names. `maps` are the
-/// line maps of the texts.
-fn finding_lines(
+/// Returns what is told of the findings in these definitions, in order, without the kinds that
+/// `--allow` names. `maps` are the line maps of the texts.
+pub fn told_in(
+    alloc: Global,
+    sources: &[Source],
+    maps: &[LineMap],
+    arguments: &[Argument],
+    defs: &[Def],
+) -> Result<Vec<Told>, AllocError>
+    requires plain { definitions_have_macro_arg (definitions_of defs.now) ≡ false }
+    requires maps { maps.now ≡ line_maps (map source_of sources.now) }
+    ensures { IfOk result (λ told. map told_node told.items
+        ≡ told_in (map given_of arguments.now) (map source_of sources.now)
+        (definitions_of defs.now)) }
+{
+    let found = check(alloc, defs)?;
+    told_all(alloc, sources, maps, arguments, &found)
+}
+
+/// Returns what is told of findings.
+fn told_all(
     alloc: Global,
     sources: &[Source],
     maps: &[LineMap],
     arguments: &[Argument],
     found: &[Finding],
-) -> Result<Vec<Line>, AllocError>
+) -> Result<Vec<Told>, AllocError>
     requires { maps.now ≡ line_maps (map source_of sources.now) }
-    ensures { IfOk result (λ lines. lines_at lines.items
-        ≡ finding_lines (map given_of arguments.now) (map source_of sources.now)
+    ensures { IfOk result (λ told. map told_node told.items
+        ≡ told_all (map given_of arguments.now) (map source_of sources.now)
         (findings_of found.now)) }
 {
-    let mut lines = Vec::new(alloc);
+    let mut told = Vec::new(alloc);
     for finding in found {
-        add_line(alloc, sources, maps, arguments, finding, &mut lines)?;
+        add_told(alloc, sources, maps, arguments, finding, &mut told)?;
     }
-    Ok(lines)
+    Ok(told)
 }
 
-fn add_line(
+/// Adds what is told of a finding, unless `--allow` names its kind.
+fn add_told(
     alloc: Global,
     sources: &[Source],
     maps: &[LineMap],
     arguments: &[Argument],
     finding: &Finding,
+    told: &mut Vec<Told>,
+) -> Result<(), AllocError>
+    requires { maps.now ≡ line_maps (map source_of sources.now) }
+    ensures { OnOk result (map told_node told.new.items ≡ map told_node told.old.items
+        ++ told_for (map given_of arguments.now) (map source_of sources.now)
+        (finding_of finding.now)) }
+{
+    let words = finding.kind.words(alloc)?;
+    if is_named(arguments, "--allow", words.name) {
+        return Ok(());
+    }
+    let is_error = counts(arguments, words.name, finding.kind.is_error());
+    let notes = notes_text(alloc, format_of(arguments), sources, maps, finding)?;
+    told.push(Told {
+        pos: finding.pos,
+        is_error,
+        words,
+        notes,
+    })?;
+    Ok(())
+}
+
+/// Returns the lines of the notes of a finding. `maps` are the line maps of the texts.
+fn notes_text(
+    alloc: Global,
+    format: Format,
+    sources: &[Source],
+    maps: &[LineMap],
+    finding: &Finding,
+) -> Result<String, AllocError>
+    requires { maps.now ≡ line_maps (map source_of sources.now) }
+    ensures { IfOk result (λ text. string_bytes text
+        ≡ flat_map (note_line format (map source_of sources.now))
+        (finding_notes (finding_of finding.now))) }
+{
+    let notes = finding.notes(alloc)?;
+    let mut text = String::new(alloc);
+    add_notes(alloc, format, sources, maps, &notes, &mut text)?;
+    Ok(text)
+}
+
+/// Returns the lines of what is told. `maps` are the line maps of the texts.
+fn finding_lines(
+    alloc: Global,
+    format: Format,
+    sources: &[Source],
+    maps: &[LineMap],
+    told: &[Told],
+) -> Result<Vec<Line>, AllocError>
+    requires { maps.now ≡ line_maps (map source_of sources.now) }
+    ensures { IfOk result (λ lines. lines_at lines.items
+        ≡ finding_lines format (map source_of sources.now) (map told_node told.now)) }
+{
+    let mut lines = Vec::new(alloc);
+    for one in told {
+        add_line(alloc, format, sources, maps, one, "", &mut lines)?;
+    }
+    Ok(lines)
+}
+
+/// Adds the lines of a finding, which is told of these programs. `maps` are the line maps of the
+/// texts.
+pub fn add_line(
+    alloc: Global,
+    format: Format,
+    sources: &[Source],
+    maps: &[LineMap],
+    told: &Told,
+    programs: &str,
     lines: &mut Vec<Line>,
 ) -> Result<(), AllocError>
     requires { maps.now ≡ line_maps (map source_of sources.now) }
     ensures { OnOk result (lines_at lines.new.items ≡ lines_at lines.old.items
-        ++ line_for (map given_of arguments.now) (map source_of sources.now)
-        (finding_of finding.now)) }
+        ++ finding_line format programs.now (map source_of sources.now) (told_node told.now)
+        ∷ []) }
 {
-    let words = finding.kind.words(alloc)?;
-    if is_allowed(arguments, words.name) {
-        return Ok(());
-    }
-    let format = format_of(arguments);
-    let is_error = counts_as_error(arguments, words.name, finding.kind.is_error());
     let message = Message {
-        severity: severity_of(is_error),
-        kind: words.name,
-        text: words.message.as_str(),
-        programs: "",
+        severity: severity_of(told.is_error),
+        kind: told.words.name,
+        text: told.words.message.as_str(),
+        programs,
     };
-    let mut text = told_at(alloc, format, sources, maps, finding.pos, &message)?;
-    let notes = finding.notes(alloc)?;
-    add_notes(alloc, format, sources, maps, &notes, &mut text)?;
-    lines.push(Line { is_error, text })?;
+    let mut text = told_at(alloc, format, sources, maps, told.pos, &message)?;
+    text.push_str(told.notes.as_str())?;
+    lines.push(Line {
+        is_error: told.is_error,
+        text,
+    })?;
     Ok(())
 }
 
@@ -298,9 +377,9 @@ pub fn rendered(alloc: Global, format: Format, lines: &[Line]) -> Result<Report,
 {
     let errors = count_of(lines, true);
     let mut text = joined(alloc, lines)?;
-    let count = told_count(alloc, format, errors, count_of(lines, false))?;
-    text.push_str(count.as_str())?;
-    Ok(Report { text, errors })
+    add_count(alloc, format, errors, count_of(lines, false), &mut text)?;
+    let is_clean = errors == 0;
+    Ok(Report { text, is_clean })
 }
 
 fn joined(alloc: Global, lines: &[Line]) -> Result<String, AllocError>

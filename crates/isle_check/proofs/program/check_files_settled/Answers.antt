@@ -1,15 +1,24 @@
-use Rattle.std.proofs.Common.{◌<◌, arith, length, map, rules, string_bytes, tests}
+use Rattle.std.proofs.Common.{◌≡◌, ◌<◌, None, ap, arith, length, map, refl, rules, string_bytes, tests}
 use Rattle.std.proofs.lemmas.Grind.{common_steps}
+use Rattle.std.proofs.lemmas.Result.{IfErr-weaker, IfOk-weaker}
 use Rattle.isle_cli.specs.Arguments.{given_of}
-use Rattle.isle_check.proofs.DoingLemmas.{told_faults, told_whole}
+use Rattle.isle_cli.specs.Sources.{source_of}
+use Rattle.isle_check.proofs.DoingLemmas.{explained, told_faults, told_whole}
 use Rattle.isle_check.proofs.program.check_files_settled.Goals as goal
-use Rattle.isle_check.specs.ReportView.{report_of}
 
 pub returns-clause-ok : goal.returns-clause-ok
 returns-clause-ok g c =
-    told_whole (map given_of c.args.arguments.now) _ _ _ (report_of c.in_ok-told.told.report) (string_bytes c.in_ok-told.told.note) c.status_of.result _ _ _ _ _ _
-    (search (tests, rules)) (search (tests, rules)) c.in_ok-sources.ensures (search (tests, rules))
-    (search (tests, rules)) c.status_of.ensures (search (tests, rules)) (rw c.as_bytes-2.ensures.value at c.write_whole-2.ensures.part)
+    let empty : length (string_bytes c.in_ok-sources.sources.faults) ≡ 0 = search (tests, rules) in
+    IfOk-weaker c.check_texts.result _ _
+    (λ status told. told_whole (map given_of c.args.arguments.now) _ _ _ _ _ _ _ _ _ (search (tests, rules)) (refl, refl) c.in_ok-sources.ensures empty (map source_of c.deref.result.now) (ap (map source_of) c.deref.ensures.value) status told)
+    c.check_texts.ensures.ok
+
+pub returns-clause-err : goal.returns-clause-err
+returns-clause-err g c =
+    let empty : length (string_bytes c.in_ok-sources.sources.faults) ≡ 0 = search (tests, rules) in
+    IfErr-weaker c.check_texts.result _ _
+    (λ failure why. explained (map given_of c.args.arguments.now) _ _ _ _ _ _ _ None None (search (tests, rules)) (refl, refl) c.in_ok-sources.ensures empty (map source_of c.deref.result.now) (ap (map source_of) c.deref.ensures.value) failure why)
+    c.check_texts.ensures.err
 
 pub returns-then-not-is_empty-clause-ok : goal.returns-then-not-is_empty-clause-ok
 returns-then-not-is_empty-clause-ok g c =

@@ -1,7 +1,7 @@
-use Rattle.std.proofs.Common.{◌≡◌, drop}
-use Rattle.isle_check.specs.Programs.{is_among}
-use Rattle.isle_check.specs.ReportView.{line_at, lines_at}
+use Rattle.std.proofs.Common.{◌≡◌, drop, map}
+use Rattle.isle_check.specs.Programs.{is_among, once_of}
+use Rattle.isle_check.specs.ReportView.{told_node}
 use Rattle.isle_check.proofs.programs.is_among.Given as goal
 
 abbrev pub invariant-loop-other : goal.invariant-loop-other
-invariant-loop-other l = is_among (lines_at (drop l.other-index l.lines)) (line_at l.line) ≡ is_among (lines_at l.lines) (line_at l.line)
+invariant-loop-other l = is_among (map once_of (drop l.other-index l.all)) (told_node l.told) ≡ is_among (map once_of l.all) (told_node l.told)

@@ -4,8 +4,9 @@ use Rattle.isle_cli.specs.Arguments.{given_of}
 use Rattle.isle_cli.specs.Sources.{source_of}
 use Rattle.isle_program.specs.Reading.{refused_count}
 use Rattle.isle_program.specs.reports.Formats.{format_in}
+use Rattle.isle_program_findings.specs.ReportView.{report_of}
 use Rattle.isle_check.specs.Report.{lines_of, refused, rendered}
-use Rattle.isle_check.specs.ReportView.{lines_at, report_of}
+use Rattle.isle_check.specs.ReportView.{lines_at}
 use Rattle.isle_check.proofs.report.report_in.Goals as goal
 
 chosen : {A : Type 0} (b : Bool) (x y : A) → b ≡ true → cond b x y ≡ x
