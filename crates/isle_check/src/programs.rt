@@ -159,8 +159,7 @@ fn told_in_reading(
     ensures { IfOk result (λ told. IsToldIn (map given_of arguments.now)
         (map source_of own.now) (map told_node told.items)) }
 {
-    let maps = line_maps(alloc, own)?;
-    told_in(alloc, own, &maps, arguments, &reading.defs)
+    told_in(alloc, own, arguments, &reading.defs)
 }
 
 /// Returns the lines about the texts that do not parse, and then those of the findings in the
@@ -193,6 +192,9 @@ fn add_checked_lines(
         (shared.each_once is_same [] (map checked_of checked.now))) }
 {
     let all = each_once(alloc, checked)?;
+    if all.is_empty() {
+        return Ok(());
+    }
     let maps = line_maps(alloc, sources)?;
     add_tagged(alloc, format, sources, &maps, checked, &all, lines)
 }

@@ -159,8 +159,12 @@ fn lines_of(
         ≡ lines_of (map given_of arguments.now) (map source_of sources.now)
         (definitions_of defs.now)) }
 {
+    let found = check(alloc, defs)?;
+    if found.is_empty() {
+        return Ok(Vec::new(alloc));
+    }
     let maps = line_maps(alloc, sources)?;
-    let told = told_in(alloc, sources, &maps, arguments, defs)?;
+    let told = told_all(alloc, sources, &maps, arguments, &found)?;
     finding_lines(alloc, format_of(arguments), sources, &maps, &told)
 }
 
@@ -176,25 +180,27 @@ pub fn line_maps(alloc: Global, sources: &[Source]) -> Result<Vec<LineMap>, Allo
 }
 
 /// Returns what is told of the findings in these definitions, in order, without the kinds that
-/// `--allow` names. `maps` are the line maps of the texts.
+/// `--allow` names.
 pub fn told_in(
     alloc: Global,
     sources: &[Source],
-    maps: &[LineMap],
     arguments: &[Argument],
     defs: &[Def],
 ) -> Result<Vec<Told>, AllocError>
-    requires plain { definitions_have_macro_arg (definitions_of defs.now) ≡ false }
-    requires maps { maps.now ≡ line_maps (map source_of sources.now) }
+    requires { definitions_have_macro_arg (definitions_of defs.now) ≡ false }
     ensures { IfOk result (λ told. map told_node told.items
         ≡ told_in (map given_of arguments.now) (map source_of sources.now)
         (definitions_of defs.now)) }
 {
     let found = check(alloc, defs)?;
-    told_all(alloc, sources, maps, arguments, &found)
+    if found.is_empty() {
+        return Ok(Vec::new(alloc));
+    }
+    let maps = line_maps(alloc, sources)?;
+    told_all(alloc, sources, &maps, arguments, &found)
 }
 
-/// Returns what is told of findings.
+/// Returns what is told of findings. `maps` are the line maps of the texts.
 fn told_all(
     alloc: Global,
     sources: &[Source],

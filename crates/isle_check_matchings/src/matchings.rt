@@ -56,7 +56,7 @@ fn matchings<'a>(
     ensures { IfOk result (λ made. matchings_of made.items
         ≡ matchings (terms_of terms.entry) (typed_rules_of rules.now)) }
 {
-    let mut made = Vec::new(alloc);
+    let mut made = Vec::with_capacity(alloc, rules.len())?;
     for rule in rules {
         made.push(matching(alloc, terms, rule)?)?;
     }

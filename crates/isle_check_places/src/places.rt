@@ -31,7 +31,7 @@ pub enum Step<'a> {
     /// `true` or `false`, with its type.
     Bool(bool, &'a str),
     /// An integer, with its type.
-    Int(i128, &'a str),
+    Int(&'a i128, &'a str),
     /// A constant.
     Const(&'a str),
 }
@@ -44,7 +44,7 @@ pub enum Constraint<'a> {
     /// `true` or `false`.
     Bool(bool),
     /// An integer.
-    Int(i128),
+    Int(&'a i128),
     /// A constant.
     Const(&'a str),
     /// An answer that is there.
@@ -136,7 +136,8 @@ pub fn step_on<'a>(alloc: Global, at: &[Step<'a>], step: Step<'a>) -> Result<Pla
     ensures { IfOk result (λ made. place_of made.items
         ≡ step_on (place_of at.now) (step_of step.entry)) }
 {
-    let mut made = copied(alloc, at)?;
+    let mut made = Vec::with_capacity(alloc, at.len() + 1)?;
+    made.extend_from_slice(at)?;
     made.push(step)?;
     Ok(made)
 }
@@ -145,7 +146,7 @@ pub fn step_on<'a>(alloc: Global, at: &[Step<'a>], step: Step<'a>) -> Result<Pla
 pub fn begin<'a>(alloc: Global, step: Step<'a>) -> Result<Place<'a>, AllocError>
     ensures { IfOk result (λ made. place_of made.items ≡ step_of step.entry ∷ []) }
 {
-    let mut made = Vec::new(alloc);
+    let mut made = Vec::with_capacity(alloc, 1)?;
     made.push(step)?;
     Ok(made)
 }

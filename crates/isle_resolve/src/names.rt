@@ -2,9 +2,8 @@
 
 ghost use Rattle.std.specs.Prelude.{◌≡◌, ◌++◌, IfOk, codes, option_map, string_bytes};
 ghost use Rattle.std.specs.Str.{bytes_eq};
-ghost use Rattle.isle_resolve.specs.Names.{gives, is_number, is_of, joined, meaning, named_of};
-ghost use Rattle.isle_resolve.specs.Names.{global, name_text, same_kind, variable};
-ghost use Rattle.isle_resolve.specs.Scopes.{seen_of};
+ghost use Rattle.isle_resolve.specs.Names.{global, is_number, joined, meaning, name_text};
+ghost use Rattle.isle_resolve.specs.Names.{named_of, variable};
 ghost use Rattle.isle_resolve.specs.EventView.{event_of};
 
 use crate::event::{Event, Kind, Word};
@@ -35,16 +34,6 @@ impl Name {
     {
         match self {
             Name::Global { text, .. } | Name::Variable { text, .. } => text.as_str(),
-        }
-    }
-
-    /// Returns whether an event is one of this name.
-    pub fn is_of(&self, seen: &Seen) -> bool
-        ensures { result ≡ is_of (named_of self.now) (seen_of seen.now) }
-    {
-        match self {
-            Name::Global { kind, text } => gives(&seen.event, *kind, text.as_str()),
-            Name::Variable { binder, .. } => is_number(*binder, seen.binder),
         }
     }
 }
@@ -105,33 +94,6 @@ pub fn full_name(alloc: Global, owner: &str, member: &str) -> Result<String, All
     text.push_str(".")?;
     text.push_str(member)?;
     Ok(text)
-}
-
-fn same_kind(first: Kind, second: Kind) -> bool
-    ensures { result ≡ same_kind first second }
-{
-    match first {
-        Kind::Term => matches!(second, Kind::Term),
-        Kind::Type => matches!(second, Kind::Type),
-        Kind::Constant => matches!(second, Kind::Constant),
-    }
-}
-
-/// Returns whether an event defines or uses the global name of this kind and text.
-pub fn gives(event: &Event, kind: Kind, text: &str) -> bool
-    ensures { result ≡ gives kind text.now (event_of event.now) }
-{
-    match event {
-        Event::Defines(other, word) | Event::Uses(other, word) => {
-            same_kind(kind, *other) && word.text == text
-        }
-        Event::DefinesVariant { owner, member } => {
-            same_kind(kind, Kind::Term) && is_full_name(text, owner.text, member.text)
-        }
-        Event::Occurs(..) | Event::Binds(_) | Event::Reads(_) | Event::Closes | Event::Ends => {
-            false
-        }
-    }
 }
 
 /// Returns whether `text` is `OWNER.MEMBER`.
