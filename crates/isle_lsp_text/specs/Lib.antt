@@ -1,5 +1,6 @@
 pub mod Changes
 pub mod Comments
+pub mod Definitions
 pub mod Edits
 pub mod Implementations
 pub mod Lists

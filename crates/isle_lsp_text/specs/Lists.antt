@@ -1,5 +1,5 @@
 -- The lists of an ISLE text, each from a `(` to its `)`, by the tokens of the text.
-use Rattle.std.specs.Prelude.{◌≡◌, ℕ, ◌+◌, List, [], ◌∷◌, ◌++◌, Bool, ◌&&◌, ◌==◌, Option, None, Some, length, nat_le, nat_lt, if◌then◌else◌}
+use Rattle.std.specs.Prelude.{◌≡◌, ℕ, ◌+◌, ◌-◌, List, [], ◌∷◌, ◌++◌, Bool, ◌&&◌, ◌==◌, Option, None, Some, length, nat_le, nat_lt, if◌then◌else◌}
 use Rattle.isle_base.specs.Lexing.{lexes}
 use Rattle.isle_base.specs.Token.{Tok, lparen, rparen, symbol, integer, at_sign, Lexeme, Ending}
 use Rattle.isle_lsp_text.specs.declared.lists.ListSpan.{ListSpan}
@@ -47,3 +47,11 @@ list_around depth offset (l ∷ ls) = if holds depth offset l then Some l else l
 abbrev pub outer_list : (offset : ℕ) → List ListSpan → Option ListSpan
 outer_list offset [] = None
 outer_list offset (l ∷ ls) = if l.depth == 0 && holds 0 offset l then Some l else outer_list offset ls
+
+-- how many lists are open after a token, where so many are open before it
+abbrev pub depth_after : (depth : ℕ) → Tok → ℕ
+depth_after depth lparen = depth + 1
+depth_after depth rparen = depth - 1
+depth_after depth (symbol _) = depth
+depth_after depth (integer _) = depth
+depth_after depth at_sign = depth

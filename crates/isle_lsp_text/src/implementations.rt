@@ -3,10 +3,12 @@
 
 ghost use Rattle.std.specs.Prelude.{◌≡◌, ◌∷◌, ◌++◌, [], IfOk, OnOk};
 ghost use Rattle.isle_base.specs.TokenView.{token_of_ref};
-ghost use Rattle.isle_lsp_text.specs.Implementations.{AreImplemented, depth_after, implemented_at};
+ghost use Rattle.isle_lsp_text.specs.Implementations.{AreImplemented, depth_at, implemented_at};
 ghost use Rattle.isle_lsp_text.specs.Implementations.{implemented_from, is_implemented, next};
 ghost use Rattle.isle_lsp_text.specs.Implementations.{part_after, part_named};
 
+use crate::definitions::begins_definition;
+use crate::lists::depth_after;
 use isle_base::lexer::Fault;
 use isle_base::scanner::{Scanner, TokenRef};
 use std::alloc::{AllocError, Global};
@@ -16,9 +18,13 @@ use std::alloc::{AllocError, Global};
 pub enum DefinitionPart {
     /// Its keyword.
     Keyword,
-    /// What comes before the first list of a rule or of an extractor.
+    /// What comes after `rule`: a name, a priority or the root.
+    Name,
+    /// What comes after the name of a rule: a priority or the root.
+    Priority,
+    /// Where only the `(` of the root may come.
     Front,
-    /// The first token of that list.
+    /// The first token of the root.
     Root,
     /// The second word of an `extern`.
     External,
@@ -30,39 +36,59 @@ pub enum DefinitionPart {
 
 /// The offsets at which a text implements the name that is there, in order.
 ///
-/// A rule and an extractor implement the name that their first list begins with, and an `extern`
-/// of a constructor or of an extractor those after these two words. After a lexical error there
-/// are no more.
+/// A rule and an extractor implement the name that their root begins with, which is a list: that of
+/// an extractor follows at once, and that of a rule after its name and its priority, if it has them.
+/// An `extern` of a constructor or of an extractor implements the names after these two words. A
+/// line that begins a definition (`begins_definition`) ends all lists before it. After a lexical
+/// error there are no more.
 pub fn implemented(alloc: Global, text: &str) -> Result<Vec<usize>, AllocError>
     ensures { IfOk result (λ found. AreImplemented text.now found.items) }
 {
     match Scanner::new(alloc, 0, text) {
-        Ok(scanner) => implemented_ahead(alloc, scanner),
+        Ok(scanner) => implemented_ahead(alloc, text, scanner),
         Err(Fault::Error(_)) => Ok(Vec::new(alloc)),
         Err(Fault::Failed | Fault::Memory) => Err(AllocError),
     }
 }
 
-/// The same for the tokens that a scanner has not read yet, the first of which is in no list.
-fn implemented_ahead(alloc: Global, mut scanner: Scanner) -> Result<Vec<usize>, AllocError>
+/// The same for the tokens of a text that a scanner has not read yet, the first of which is in no
+/// list.
+fn implemented_ahead(
+    alloc: Global,
+    text: &str,
+    mut scanner: Scanner,
+) -> Result<Vec<usize>, AllocError>
     ensures { IfOk result (λ found. found.items
-        ≡ implemented_from 0 (DefinitionPart.Keyword) scanner.entry.coming) }
+        ≡ implemented_from text.now 0 (DefinitionPart.Keyword) scanner.entry.coming) }
 {
     let mut depth = 0;
     let mut part = DefinitionPart::Keyword;
     let mut found = Vec::new(alloc);
     while let Some(ahead) = scanner.peek() {
         let (pos, token) = *ahead;
-        if is_implemented(depth, part, token) {
+        let here = depth_at(text, pos.offset, depth);
+        if is_implemented(here, part, token) {
             found.push(pos.offset)?;
         }
-        part = part_after(depth, part, token);
-        depth = depth_after(depth, token)?;
+        part = part_after(here, part, token);
+        depth = depth_after(here, token)?;
         if scanner.step().is_none() {
             return Ok(found);
         }
     }
     Ok(found)
+}
+
+/// In how many lists a token at this offset stands, if so many are open.
+#[tactic(auto, unfolding(crate::specs::Implementations::depth_at))]
+fn depth_at(text: &str, offset: usize, depth: usize) -> usize
+    ensures { result ≡ depth_at text.now offset depth }
+{
+    if begins_definition(text, offset) {
+        0
+    } else {
+        depth
+    }
 }
 
 /// Returns whether a token is a name that its definition implements.
@@ -91,12 +117,19 @@ fn next(part: DefinitionPart, token: TokenRef) -> DefinitionPart
 {
     match (part, token) {
         (DefinitionPart::Keyword, TokenRef::Symbol(word)) => part_named(word),
+        (DefinitionPart::Name, TokenRef::Symbol(_)) => DefinitionPart::Priority,
+        (DefinitionPart::Name | DefinitionPart::Priority, TokenRef::Int(_)) => {
+            DefinitionPart::Front
+        }
+        (
+            DefinitionPart::Name | DefinitionPart::Priority | DefinitionPart::Front,
+            TokenRef::LParen,
+        ) => DefinitionPart::Root,
         (DefinitionPart::External, TokenRef::Symbol("constructor" | "extractor")) => {
             DefinitionPart::Names
         }
-        (DefinitionPart::Front, TokenRef::LParen) => DefinitionPart::Root,
         (DefinitionPart::Names, TokenRef::LParen) => DefinitionPart::Rest,
-        (DefinitionPart::Front | DefinitionPart::Names, _) => part,
+        (DefinitionPart::Names, _) => part,
         _ => DefinitionPart::Rest,
     }
 }
@@ -106,19 +139,9 @@ fn part_named(keyword: &str) -> DefinitionPart
     ensures { result ≡ part_named keyword.now }
 {
     match keyword {
-        "rule" | "extractor" => DefinitionPart::Front,
+        "rule" => DefinitionPart::Name,
+        "extractor" => DefinitionPart::Front,
         "extern" => DefinitionPart::External,
         _ => DefinitionPart::Rest,
-    }
-}
-
-/// In how many lists the token after this one stands. A number past `usize::MAX` is out of memory.
-fn depth_after(depth: usize, token: TokenRef) -> Result<usize, AllocError>
-    ensures { IfOk result (λ after. after ≡ depth_after depth (token_of_ref token.entry)) }
-{
-    match token {
-        TokenRef::LParen => Ok(depth.checked_add(1).ok_or(AllocError)?),
-        TokenRef::RParen => Ok(depth.saturating_sub(1)),
-        TokenRef::Symbol(_) | TokenRef::Int(_) | TokenRef::At => Ok(depth),
     }
 }

@@ -7,6 +7,7 @@
 
 pub mod changes;
 pub mod comments;
+pub mod definitions;
 pub mod edits;
 pub mod implementations;
 pub mod laws;

@@ -2,8 +2,8 @@
 
 ghost use Rattle.std.specs.Prelude.{◌≡◌, ◌+◌, ◌<◌, ◌^◌, ◌++◌, [], IfOk, OnOk, reverse};
 ghost use Rattle.isle_base.specs.TokenView.{token_of_ref};
-ghost use Rattle.isle_lsp_text.specs.Lists.{AreLists, closed, holds, list_around, lists_of, opened};
-ghost use Rattle.isle_lsp_text.specs.Lists.{outer_list};
+ghost use Rattle.isle_lsp_text.specs.Lists.{AreLists, closed, depth_after, holds, list_around};
+ghost use Rattle.isle_lsp_text.specs.Lists.{lists_of, opened, outer_list};
 
 use isle_base::lexer::{Fault, Pos};
 use isle_base::scanner::{Scanner, TokenRef};
@@ -106,4 +106,16 @@ pub fn outer_list(lists: &[ListSpan], offset: usize) -> Option<ListSpan>
         }
     }
     None
+}
+
+/// The number of lists that are open after a token, where this many are open before it. A number
+/// past `usize::MAX` is out of memory.
+pub fn depth_after(depth: usize, token: TokenRef) -> Result<usize, AllocError>
+    ensures { IfOk result (λ after. after ≡ depth_after depth (token_of_ref token.entry)) }
+{
+    match token {
+        TokenRef::LParen => Ok(depth.checked_add(1).ok_or(AllocError)?),
+        TokenRef::RParen => Ok(depth.saturating_sub(1)),
+        TokenRef::Symbol(_) | TokenRef::Int(_) | TokenRef::At => Ok(depth),
+    }
 }

@@ -128,7 +128,7 @@ fn ends_line(bytes: &[u8], i: usize) -> bool
 }
 
 /// Returns whether a byte is part of a line end.
-fn is_line_end(byte: u8) -> bool
+pub(crate) fn is_line_end(byte: u8) -> bool
     ensures { result ≡ is_line_end byte }
 {
     byte == b'\n' || byte == b'\r'
@@ -142,7 +142,7 @@ fn is_inner(byte: u8) -> bool
 }
 
 /// The number of UTF-16 units of the character that begins with this byte; 0 if none does.
-fn unit_count(byte: u8) -> usize
+pub fn unit_count(byte: u8) -> usize
     ensures count { result ≡ unit_count byte }
     ensures bound { result ≤ 2 }
 {
