@@ -97,7 +97,7 @@ pub fn add_asks<'a>(
         }
         TypedPattern::Var { variable, .. } => equate(alloc, *variable, at, asks),
         TypedPattern::Bool { val, .. } => constrain(alloc, at, Constraint::Bool(*val), asks),
-        TypedPattern::Int { val, .. } => constrain(alloc, at, Constraint::Int(val), asks),
+        TypedPattern::Int { val, .. } => constrain(alloc, at, Constraint::Int(*val), asks),
         TypedPattern::Const { name, .. } => { constrain(alloc, at, Constraint::Const(name), asks) }
         TypedPattern::Term { term, args, .. } => {
             add_term_asks(alloc, terms, term, args, at, asks)

@@ -148,7 +148,7 @@ pub fn expression_value<'a>(
     match expr {
         TypedExpression::Var { variable, .. } => variable_value(alloc, known, *variable),
         TypedExpression::Bool { val } => plain(alloc, begin(alloc, Step::Bool(*val, "bool"))?),
-        TypedExpression::Int { val, ty } => plain(alloc, begin(alloc, Step::Int(val, ty))?),
+        TypedExpression::Int { val, ty } => plain(alloc, begin(alloc, Step::Int(*val, ty))?),
         TypedExpression::Const { name, .. } => { plain(alloc, begin(alloc, Step::Const(name))?) }
         TypedExpression::Term { term, args, .. } => { called(alloc, terms, known, term, args) }
         TypedExpression::Let { defs, body, .. } => {

@@ -25,7 +25,7 @@ step_of steps.Each = each
 step_of (steps.Extracted term) = extracted term.now
 step_of (steps.Computed term arguments) = computed term.now arguments
 step_of (steps.Bool val ty) = bool_value val ty.now
-step_of (steps.Int val ty) = int_value val.now ty.now
+step_of (steps.Int val ty) = int_value val ty.now
 step_of (steps.Const name) = constant_value name.now
 
 abbrev pub place_of : List Step → Place
@@ -34,7 +34,7 @@ place_of ss = map step_of ss
 abbrev pub constraint_of : Constraint → ConstraintNode
 constraint_of (kinds.Variant variant fields) = of_variant variant.now fields
 constraint_of (kinds.Bool val) = of_bool val
-constraint_of (kinds.Int val) = of_int val.now
+constraint_of (kinds.Int val) = of_int val
 constraint_of (kinds.Const name) = of_constant name.now
 constraint_of kinds.Present = present
 

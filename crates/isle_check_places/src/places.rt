@@ -31,7 +31,7 @@ pub enum Step<'a> {
     /// `true` or `false`, with its type.
     Bool(bool, &'a str),
     /// An integer, with its type.
-    Int(&'a i128, &'a str),
+    Int(i128, &'a str),
     /// A constant.
     Const(&'a str),
 }
@@ -44,7 +44,7 @@ pub enum Constraint<'a> {
     /// `true` or `false`.
     Bool(bool),
     /// An integer.
-    Int(&'a i128),
+    Int(i128),
     /// A constant.
     Const(&'a str),
     /// An answer that is there.

@@ -16,7 +16,7 @@ use Rattle.isle_check_places.specs.values.Values.{KnownNode, ValueNode}
 abbrev pub said_of : Said → SaidNode
 said_of (said.Variant variant count) = said_variant variant.now count
 said_of (said.Bool val) = said_bool val
-said_of (said.Int val) = said_int val.now
+said_of (said.Int val) = said_int val
 said_of (said.Const name) = said_constant name.now
 said_of (said.Extractor term) = said_extractor term.now
 

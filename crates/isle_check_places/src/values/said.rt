@@ -19,7 +19,7 @@ use std::alloc::{AllocError, Global};
 pub enum Said<'a> {
     Variant(&'a str, usize),
     Bool(bool),
-    Int(&'a i128),
+    Int(i128),
     Const(&'a str),
     Extractor(&'a str),
 }
