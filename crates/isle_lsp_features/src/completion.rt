@@ -87,10 +87,24 @@ fn sorted_words(
     ensures in_order { IfOk result
         (λ words. IsSortedByKey (λ w. string_bytes w.text) wanted.text_order words.items) }
 {
+    let mut words = all_words(alloc, found, slot, prefix)?;
+    words.sort_by(|a, b| a.text.cmp(&b.text))?;
+    Ok(words)
+}
+
+/// The candidates that may stand in a slot, and then the keywords that begin with a prefix.
+fn all_words(
+    alloc: Global,
+    found: &[Candidate],
+    slot: Slot,
+    prefix: &[u8],
+) -> Result<Vec<Word>, AllocError>
+    ensures { IfOk result (λ words. map word_of words.items
+        ≡ wanted.words slot prefix.now (map candidate_of found.now)) }
+{
     let mut words = Vec::new(alloc);
     add_names(alloc, found, names_of(slot), &mut words)?;
     add_keywords(alloc, keywords_of(slot), prefix, &mut words)?;
-    words.sort_by(|a, b| a.text.cmp(&b.text))?;
     Ok(words)
 }
 
