@@ -498,6 +498,141 @@ def call_around(text, offset):
     return next(((it.head, max(0, len(it.items) - 1 - it.goes_on)) for it in reversed(lists) if it.head), None)
 
 
+TYPES, TERMS, VALUES, NOTHING = {TYPE}, {TERM, "variant"}, {TERM, "variant", CONSTANT, VARIABLE}, set()
+EVERYTHING = {TYPE, *VALUES}
+
+
+class Open:
+    """A list that is open at a place: its items before the place, where a symbol is its text and a list or a number None."""
+
+    def __init__(self):
+        self.items, self.goes_on = [], False
+
+    def add(self, item):
+        self.items[-1:] = [None] if self.goes_on else [*self.items[-1:], item]
+        self.goes_on = False
+
+    @property
+    def number(self):
+        """How many items are before the one at the place."""
+        return len(self.items) - self.goes_on
+
+    @property
+    def head(self):
+        return self.items[0] if self.items else None
+
+
+def offered(text, offset):
+    """The kinds of names and the keywords that may stand at a place, by the lists around it; None behind what is no token."""
+    tokens, is_faulty = tokens_of(text)
+    before = [it for it in tokens if it.end < offset or (it.end == offset and it.kind in "()@")]
+    if is_faulty and len(before) == len(tokens):
+        return None
+    begins = [
+        number
+        for number, (one, other) in enumerate(zip(before, before[1:]))
+        if one.kind == "(" and text[one.start - 1 : one.start] in ("", "\n", "\r") and one.end == other.start and other.text in DEFINITIONS
+    ]
+    lists = []
+    for it in before[begins[-1] if begins else 0 :]:
+        if it.kind == "(":
+            lists.append(Open())
+        elif it.kind == ")":
+            lists[-1:] = []
+            if lists:
+                lists[-1].add(())
+        elif lists and it.kind == "@":
+            lists[-1].goes_on = True
+        elif lists:
+            lists[-1].add(it.text if it.kind == "symbol" else None)
+    if not lists:
+        return EVERYTHING, []
+    if not lists[0].items:
+        return (NOTHING, sorted(DEFINITIONS)) if len(lists) == 1 else (EVERYTHING, [])
+    return OFFERED.get(lists[0].head, lambda *lists: (EVERYTHING, []))(*lists)
+
+
+def offered_in_decl(outer, *inner):
+    """In `(decl FLAG.. NAME (TYPE..) TYPE)`."""
+    is_type = len(inner) == (() not in outer.items)
+    return (TYPES if is_type else EVERYTHING), []
+
+
+def offered_in_type(_, value=None, *inner):
+    """In `(type NAME MODIFIER.. VALUE)`: the value begins with a keyword, and types are the fields, or the second items of fields."""
+    if not value:
+        return EVERYTHING, []
+    if not value.items:
+        return (NOTHING, ["enum", "primitive", "struct"]) if not inner else (EVERYTHING, [])
+    fields = {"enum": inner, "struct": (value, *inner)}.get(value.head, ())
+    are_types = (len(fields) == 1 and fields[0].number > 0) or (len(fields) == 2 and fields[0].number > 0 and fields[1].number > 0)
+    return (TYPES if are_types else EVERYTHING), []
+
+
+def offered_in_convert(outer, *inner):
+    return (EVERYTHING if inner or outer.number > 3 else TERMS if outer.number == 3 else TYPES), []
+
+
+def offered_in_extern(outer, *inner):
+    """In `(extern constructor TERM NAME)`, `(extern extractor [infallible] TERM NAME)` and `(extern const CONSTANT TYPE)`."""
+    if inner:
+        return EVERYTHING, []
+    if outer.number == 1:
+        return NOTHING, ["const", "constructor", "extractor"]
+    words = outer.items[1:]
+    if words[0] == "const":
+        return (TYPES if len(words) > 1 else EVERYTHING), []
+    is_term = words in (["constructor"], ["extractor"], ["extractor", "infallible"])
+    return (TERMS if is_term else EVERYTHING), (["infallible"] if words == ["extractor"] else [])
+
+
+def offered_in_rule(outer, *inner):
+    """In `(rule [NAME] [PRIORITY] PATTERN CONDITION.. EXPRESSION)`: the first list is the pattern."""
+    if not inner:
+        return VALUES, []
+    if () not in outer.items:
+        return offered_in_pattern(*inner)
+    first, *rest = inner
+    if not first.items:
+        return (EVERYTHING, []) if rest else (TERMS, ["if", "if-let", "let"])
+    if first.head == "if-let" and first.number == 1:
+        return offered_in_pattern(*rest) if rest else (VALUES, [])
+    return offered_in_expression(*rest) if rest and first.head != "let" else offered_in_expression(*inner)
+
+
+def offered_in_extractor(outer, *inner):
+    """In `(extractor (NAME VARIABLE..) PATTERN)`."""
+    if not inner:
+        return (VALUES if () in outer.items else EVERYTHING), []
+    found, words = offered_in_pattern(*inner)
+    return found, words if () in outer.items or len(inner) > 1 else []
+
+
+def offered_in_pattern(*lists):
+    if not all(it.items for it in lists[:-1]):
+        return EVERYTHING, []
+    return (VALUES, []) if lists[-1].items else (TERMS, ["and"])
+
+
+def offered_in_expression(first, *rest):
+    if not first.items:
+        return (EVERYTHING, []) if rest else (TERMS, ["let"])
+    if first.head != "let" or first.number > 1:
+        return offered_in_expression(*rest) if rest else (VALUES, [])
+    if len(rest) < 2 or rest[1].number == 0:  # where the definitions of a `let` are, or the name in one
+        return EVERYTHING, []
+    _, definition, *rest = rest
+    if definition.number == 1:
+        return (EVERYTHING if rest else TYPES), []
+    return offered_in_expression(*rest) if rest else (VALUES, [])
+
+
+OFFERED = {
+    "decl": offered_in_decl, "type": offered_in_type, "convert": offered_in_convert, "extern": offered_in_extern, "rule": offered_in_rule,
+    "extractor": offered_in_extractor,
+}  # fmt: skip
+
+
 def parameters(declaration, is_variant):
     """From where to where the parameters of a declaration are."""
     tokens, depth, found = tokens_of(declaration)[0], 0, []

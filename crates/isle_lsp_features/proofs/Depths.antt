@@ -4,7 +4,6 @@ use Rattle.std.specs.Global.{Vec}
 use Rattle.serde_json.specs.Data.{Data, Members, array, depth, members_depth, no_members}
 use Rattle.serde_json.specs.View.{items_of}
 use Rattle.isle_base_source.specs.declared.pos.Pos.{Pos}
-use Rattle.isle_index.specs.Candidates.{candidate_of}
 use Rattle.isle_resolve.specs.Names.{NameNode, name_text}
 use Rattle.isle_index.specs.Occurrences.{name_at, occurrence_at}
 use Rattle.isle_resolve.specs.Scopes.{SeenNode}
@@ -22,8 +21,7 @@ use Rattle.isle_lsp_protocol.specs.Items.{edits_data}
 use Rattle.isle_lsp_protocol.specs.Parameters.{item_of, new_name_of, query_of, wants_definitions}
 use Rattle.isle_lsp_protocol.specs.Replies.{Outcome, done, failed}
 use Rattle.isle_lsp_features.specs.Answers.{AreSymbols, FindsAt, IsAnswer, IsAnswerOf, IsFoundAt, IsRenamingAt, IsRenamingBy, IsRenamingOf, IsResolution, refused}
-use Rattle.isle_lsp_features.specs.Completed as completed
-use Rattle.isle_lsp_features.specs.Completed.{AreCompletions, item_name, once, range_before}
+use Rattle.isle_lsp_features.specs.Completed.{AreCompletions, item_name, once, range_before, word_of}
 use Rattle.isle_lsp_features.specs.Defined.{AreDocumentSymbols, is_variant, letters_of, number_of, range_of, symbol_data, symbol_in, symbols_from, workspace_symbols}
 use Rattle.isle_lsp_features.specs.Implemented.{AreImplementations, implementation_in, implementations_from, is_marked}
 use Rattle.isle_lsp_features.specs.Located.{AreHighlights, AreReferences, IsDefinition, highlight_of, location_in, locations_from}
@@ -91,8 +89,8 @@ highlights_depth file text None all d h = at_most 5 _ _ h (omega arith)
 highlights_depth file text (Some name) all d h = at_most 5 _ _ h.2 (array_depth 4 _ (flat_map_shallow 4 (highlight_of file text) h.0 (highlight_shallow file text)))
 
 completions_depth : (place : Pos) (text : List ℕ) (all : List SeenNode) (d : Data) → AreCompletions place text all d → depth d ≤ 6
-completions_depth place text all d (lists, found, spans, all_of_them, in_order, is) =
-    at_most 6 _ _ is (array_depth 5 _ (map_shallow 5 _ (once None (map candidate_of found)) (λ c. completion_depth c.text (completed.number_of c.kind) (range_before text place.offset))))
+completions_depth place text all d (lists, slot, found, spans, stands, all_of_them, in_order, is) =
+    at_most 6 _ _ is (array_depth 5 _ (map_shallow 5 _ (once None (map word_of found)) (λ w. completion_depth w.text w.kind (range_before text place.offset))))
 
 -- ---- definitions
 

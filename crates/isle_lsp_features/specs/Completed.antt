@@ -1,5 +1,6 @@
 -- The completions at a place, as JSON.
-use Rattle.std.specs.Prelude.{◌≡◌, ℕ, ◌-◌, ◌||◌, ◌==◌, List, [], ◌∷◌, Bool, false, Option, None, Some, length, map, min, string_bytes, bytes_eq, if◌then◌else◌}
+use Rattle.std.specs.Prelude.{◌≡◌, ℕ, ◌-◌, ◌||◌, ◌==◌, List, [], ◌∷◌, ◌++◌, Bool, false, true, Option, None, Some, filter, length, map, min, nat_eq, string_bytes, bytes_eq, if◌then◌else◌}
+use Rattle.std.specs.List.{starts_with}
 use Rattle.std.specs.Cmp.Lexicographic.{slice_cmp}
 use Rattle.std.specs.List.Sorted.{IsPermutation, IsSortedByKey}
 use Rattle.std.specs.Ordering.{nat_cmp}
@@ -7,13 +8,18 @@ use Rattle.std.specs.declared.cmp.Ordering.{Ordering}
 use Rattle.serde_json.specs.Data.{Data, array}
 use Rattle.serde_json.specs.View.{items_of}
 use Rattle.isle_base_source.specs.declared.pos.Pos.{Pos}
-use Rattle.isle_index.specs.Candidates.{CandidateNode, candidate_of, candidates}
+use Rattle.isle_index.specs.Candidates.{CandidateNode, candidates}
 use Rattle.isle_resolve.specs.Names.{NameNode, global}
 use Rattle.isle_resolve.specs.Scopes.{SeenNode}
-use Rattle.isle_index.specs.declared.candidates.Candidate.{Candidate}
 use Rattle.isle_index.specs.declared.symbols.SymbolKind.{SymbolKind}
 use Rattle.isle_index.specs.declared.symbols.SymbolKind.TheVariants as symbol_kinds
 use Rattle.isle_resolve.specs.declared.event.Kind.TheVariants as kinds
+use Rattle.isle_lsp_completions.specs.Offers.{keywords_of, names_of}
+use Rattle.isle_lsp_completions.specs.Places.{IsSlotAt}
+use Rattle.isle_lsp_completions.specs.declared.offers.Names.{Names}
+use Rattle.isle_lsp_completions.specs.declared.offers.Names.TheVariants as offered
+use Rattle.isle_lsp_completions.specs.declared.slot.Slot.{Slot}
+use Rattle.isle_lsp_features.specs.declared.completion.Word.{Word}
 use Rattle.isle_lsp_protocol.specs.Parameters.{kind_of, label_of}
 use Rattle.isle_lsp_protocol.specs.Results.{completion_item}
 use Rattle.isle_lsp_text.specs.Lists.{AreLists, outer_list}
@@ -30,21 +36,55 @@ number_of symbol_kinds.Variant = 20
 number_of symbol_kinds.Constant = 21
 number_of symbol_kinds.Variable = 6
 
--- a name that replaces a range
-abbrev pub item : Range → CandidateNode → Data
-item range c = completion_item c.text (number_of c.kind) range
+-- a text that may stand at a place, and the protocol's number of its kind
+pub record WordNode : Type 0 where
+  pub kind : ℕ
+  pub text : List ℕ
 
-abbrev pub is_again : Option CandidateNode → CandidateNode → Bool
-is_again None c = false
-is_again (Some last) c = bytes_eq last.text c.text
+abbrev pub word_of : Word → WordNode
+word_of w = record { kind = w.kind; text = string_bytes w.text }
 
--- those whose name differs from the one before
-abbrev pub once : Option CandidateNode → List CandidateNode → List CandidateNode
+-- whether a name of a kind is one of these
+abbrev pub is_kind_of : Names → SymbolKind → Bool
+is_kind_of offered.All kind = true
+is_kind_of offered.Nothing kind = false
+is_kind_of offered.Types symbol_kinds.Type = true
+is_kind_of offered.Types kind = false
+is_kind_of offered.Terms symbol_kinds.Term = true
+is_kind_of offered.Terms symbol_kinds.Variant = true
+is_kind_of offered.Terms kind = false
+is_kind_of offered.Values symbol_kinds.Type = false
+is_kind_of offered.Values kind = true
+
+abbrev pub is_of : Names → CandidateNode → Bool
+is_of names c = is_kind_of names c.kind
+
+abbrev pub name_word : CandidateNode → WordNode
+name_word c = record { kind = number_of c.kind; text = c.text }
+
+abbrev pub keyword_word : List ℕ → WordNode
+keyword_word keyword = record { kind = 14; text = keyword }
+
+-- the candidates that may stand in a slot, and its keywords that begin with a prefix
+abbrev pub words : Slot → (prefix : List ℕ) → List CandidateNode → List WordNode
+words slot prefix cs =
+    map name_word (filter (is_of (names_of slot)) cs) ++ map keyword_word (filter (λ text. starts_with nat_eq text prefix) (keywords_of slot))
+
+-- a text that replaces a range
+abbrev pub item : Range → WordNode → Data
+item range w = completion_item w.text w.kind range
+
+abbrev pub is_again : Option WordNode → WordNode → Bool
+is_again None w = false
+is_again (Some last) w = bytes_eq last.text w.text
+
+-- those whose text differs from the one before
+abbrev pub once : Option WordNode → List WordNode → List WordNode
 once last [] = []
-once last (c ∷ cs) = if is_again last c then once (Some c) cs else c ∷ once (Some c) cs
+once last (w ∷ ws) = if is_again last w then once (Some w) ws else w ∷ once (Some w) ws
 
-abbrev pub items : Range → List CandidateNode → Data
-items range cs = array (items_of (map (item range) (once None cs)))
+abbrev pub items : Range → List WordNode → Data
+items range ws = array (items_of (map (item range) (once None ws)))
 
 -- texts by their bytes
 abbrev pub text_order : List ℕ → List ℕ → Ordering
@@ -62,13 +102,15 @@ begins_at (Some l) end = l.from
 abbrev pub outer_start : List ℕ → List ListSpan → (offset : ℕ) → ℕ
 outer_start text lists offset = begins_at (outer_list offset lists) (length text)
 
--- The candidates that begin with the partly written name right before a place, which they replace, each once, sorted by name. The
--- variables among them are those in scope at the last name before the place, if that name is in the outermost list around the place.
+-- The candidates and keywords that begin with the partly written name right before a place, which they replace, and that may stand there
+-- by what stands next in the innermost list around it, each once, sorted by text. The variables among them are those in scope at the last
+-- name before the place, if that name is in the outermost list around the place.
 abbrev pub AreCompletions : Pos → List ℕ → List SeenNode → Data → Type 0
 AreCompletions place text all d =
-    (lists : List ListSpan) × (found : List Candidate) × AreLists text lists
-    × IsPermutation (candidates place (outer_start text lists place.offset) (name_before text place.offset) all) (map candidate_of found)
-    × IsSortedByKey (λ c. string_bytes c.text) text_order found × (d ≡ items (range_before text place.offset) (map candidate_of found))
+    let prefix : List ℕ = name_before text place.offset in
+    (lists : List ListSpan) × (slot : Slot) × (found : List Word) × AreLists text lists × IsSlotAt text place.offset slot
+    × IsPermutation (words slot prefix (candidates place (outer_start text lists place.offset) prefix all)) (map word_of found)
+    × IsSortedByKey (λ w. string_bytes w.text) text_order found × (d ≡ items (range_before text place.offset) (map word_of found))
 
 -- ---- the name of an item
 

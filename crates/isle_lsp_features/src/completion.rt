@@ -1,18 +1,23 @@
 //! The completions at a place.
 
-ghost use Rattle.std.specs.Prelude.{◌≡◌, IfOk, Some, map, option_map, string_bytes};
+ghost use Rattle.std.specs.Prelude.{◌≡◌, ◌++◌, IfOk, OnOk, Some, filter, map, nat_eq};
+ghost use Rattle.std.specs.Prelude.{option_map, string_bytes};
+ghost use Rattle.std.specs.List.{starts_with};
 ghost use Rattle.std.specs.List.Sorted.{IsPermutation, IsSortedByKey};
-ghost use Rattle.isle_index.specs.Candidates.{candidate_of, candidates};
+ghost use Rattle.isle_index.specs.Candidates.{candidate_of};
 ghost use Rattle.isle_index.specs.Held.{all_in};
 ghost use Rattle.isle_resolve.specs.Names.{global, named_of};
 ghost use Rattle.serde_json.specs.View.{view};
 ghost use Rattle.isle_lsp_protocol.specs.Items.{item_data, items_data};
 ghost use Rattle.isle_lsp_features.specs.Completed as wanted;
-ghost use Rattle.isle_lsp_features.specs.Completed.{AreCompletions};
+ghost use Rattle.isle_lsp_features.specs.Completed.{AreCompletions, word_of};
 
 use crate::places::Place;
 use isle_base::lexer::Pos;
 use isle_index::{Candidate, Index, Kind, Name, SymbolKind};
+use isle_lsp_completions::offers::{Names, keywords_of, names_of};
+use isle_lsp_completions::places::slot_at;
+use isle_lsp_completions::slot::Slot;
 use isle_lsp_protocol::items::Item;
 use isle_lsp_protocol::parameters::{kind_of, label_of};
 use isle_lsp_text::lists::{ListSpan, lists, outer_list};
@@ -22,9 +27,17 @@ use isle_lsp_text::ranges::range_between;
 use serde_json::Value;
 use std::alloc::{AllocError, Global};
 
-/// The completions at a place: the names that begin with the partly written one before it, each
-/// once, sorted. The variables among them are those in scope at the last name before the place, if
-/// that name is in the outermost list around the place.
+/// A text that may stand at a place.
+#[derive(Drop)]
+struct Word {
+    /// The protocol's number of its kind.
+    kind: usize,
+    text: String,
+}
+
+/// The completions at a place: the names and the keywords that may stand there, and that begin with
+/// the partly written name before it, each once, sorted. The variables among them are those in
+/// scope at the last name before the place, if that name is in the outermost list around the place.
 pub fn completion<'a>(
     alloc: Global,
     index: &Index,
@@ -36,8 +49,10 @@ pub fn completion<'a>(
     let lists = lists(alloc, place.text)?;
     let from = outer_start(place.text, &lists, place.pos.offset);
     let prefix = name_before(place.text, place.pos.offset);
-    let found = sorted_candidates(alloc, index, place.pos, from, prefix)?;
-    items(alloc, &found, range_before(place.text, place.pos.offset))
+    let found = index.candidates(alloc, place.pos, from, prefix)?;
+    let slot = slot_at(alloc, place.text, place.pos.offset)?;
+    let words = sorted_words(alloc, &found, slot, prefix)?;
+    items(alloc, &words, range_before(place.text, place.pos.offset))
 }
 
 /// The start of the outermost list around an offset, or the end of the text if there is none.
@@ -60,69 +75,134 @@ fn range_before(text: &str, offset: usize) -> Range
     range_between(text, &mut near, end - len, end)
 }
 
-/// The candidates for a prefix at a place, sorted by name. Variables count only if they are in
-/// scope at a name at or after the offset `from`.
-fn sorted_candidates(
+/// The candidates that may stand in a slot and the keywords that begin with a prefix, sorted.
+fn sorted_words(
     alloc: Global,
-    index: &Index,
-    place: Pos,
-    from: usize,
+    found: &[Candidate],
+    slot: Slot,
     prefix: &[u8],
-) -> Result<Vec<Candidate>, AllocError>
-    ensures exact { IfOk result (λ found. IsPermutation
-        (candidates place from prefix.now (all_in index.now))
-        (map candidate_of found.items)) }
+) -> Result<Vec<Word>, AllocError>
+    ensures exact { IfOk result (λ words. IsPermutation
+        (wanted.words slot prefix.now (map candidate_of found.now)) (map word_of words.items)) }
     ensures in_order { IfOk result
-        (λ found. IsSortedByKey (λ c. string_bytes c.text) wanted.text_order found.items) }
+        (λ words. IsSortedByKey (λ w. string_bytes w.text) wanted.text_order words.items) }
 {
-    let mut found = index.candidates(alloc, place, from, prefix)?;
-    found.sort_by(|a, b| a.text.cmp(&b.text))?;
-    Ok(found)
+    let mut words = all_words(alloc, found, slot, prefix)?;
+    words.sort_by(|a, b| a.text.cmp(&b.text))?;
+    Ok(words)
 }
 
-/// Candidates as items, each name once. They are sorted by name.
-fn items<'a>(alloc: Global, found: &[Candidate], range: Range) -> Result<Vec<Item<'a>>, AllocError>
+/// The candidates that may stand in a slot, and then the keywords that begin with a prefix.
+fn all_words(
+    alloc: Global,
+    found: &[Candidate],
+    slot: Slot,
+    prefix: &[u8],
+) -> Result<Vec<Word>, AllocError>
+    ensures { IfOk result (λ words. map word_of words.items
+        ≡ wanted.words slot prefix.now (map candidate_of found.now)) }
+{
+    let mut words = Vec::new(alloc);
+    add_names(alloc, found, names_of(slot), &mut words)?;
+    add_keywords(alloc, keywords_of(slot), prefix, &mut words)?;
+    Ok(words)
+}
+
+/// Adds the candidates that are of these kinds.
+fn add_names(
+    alloc: Global,
+    found: &[Candidate],
+    names: Names,
+    words: &mut Vec<Word>,
+) -> Result<(), AllocError>
+    ensures { OnOk result (map word_of words.new.items ≡ map word_of words.old.items
+        ++ map wanted.name_word (filter (wanted.is_of names) (map candidate_of found.now))) }
+{
+    for candidate in found {
+        if is_of(names, candidate.kind) {
+            let text = String::from_str(alloc, candidate.text.as_str())?;
+            let kind = number_of(candidate.kind);
+            words.push(Word { kind, text })?;
+        }
+    }
+    Ok(())
+}
+
+/// Returns whether a name of a kind is one of these.
+fn is_of(names: Names, kind: SymbolKind) -> bool
+    ensures { result ≡ wanted.is_kind_of names kind }
+{
+    match names {
+        Names::All => true,
+        Names::Nothing => false,
+        Names::Types => matches!(kind, SymbolKind::Type),
+        Names::Terms => matches!(kind, SymbolKind::Term | SymbolKind::Variant),
+        Names::Values => !matches!(kind, SymbolKind::Type),
+    }
+}
+
+/// Adds the keywords that begin with a prefix.
+fn add_keywords(
+    alloc: Global,
+    keywords: &[&str],
+    prefix: &[u8],
+    words: &mut Vec<Word>,
+) -> Result<(), AllocError>
+    ensures { OnOk result (map word_of words.new.items ≡ map word_of words.old.items
+        ++ map wanted.keyword_word (filter (λ text. starts_with nat_eq text prefix.now)
+        (map (λ keyword. keyword.now) keywords.now))) }
+{
+    for keyword in keywords {
+        if keyword.as_bytes().starts_with(prefix) {
+            let text = String::from_str(alloc, keyword)?;
+            let kind = KEYWORD;
+            words.push(Word { kind, text })?;
+        }
+    }
+    Ok(())
+}
+
+/// Words as items, each text once. They are sorted.
+fn items<'a>(alloc: Global, words: &[Word], range: Range) -> Result<Vec<Item<'a>>, AllocError>
     ensures { IfOk result
-        (λ items. items_data items.items ≡ wanted.items range (map candidate_of found.now)) }
+        (λ items. items_data items.items ≡ wanted.items range (map word_of words.now)) }
 {
     let mut items = Vec::new(alloc);
-    let mut last: Option<&Candidate> = None;
-    for candidate in found {
-        if !is_again(last, candidate) {
-            let item = candidate_item(alloc, candidate, range)?;
+    let mut last: Option<&Word> = None;
+    for word in words {
+        if !is_again(last, word) {
+            let item = word_item(alloc, word, range)?;
             items.push(item)?;
         }
-        last = Some(candidate);
+        last = Some(word);
     }
     Ok(items)
 }
 
-/// Returns whether a candidate has the same name as the last one.
-fn is_again(last: Option<&Candidate>, candidate: &Candidate) -> bool
-    ensures { result ≡ wanted.is_again (option_map (λ c. candidate_of c.now) last.entry)
-        (candidate_of candidate.now) }
+/// Returns whether a word has the same text as the last one.
+fn is_again(last: Option<&Word>, word: &Word) -> bool
+    ensures { result ≡ wanted.is_again (option_map (λ w. word_of w.now) last.entry)
+        (word_of word.now) }
 {
     match last {
-        Some(last) => last.text.as_str() == candidate.text.as_str(),
+        Some(last) => last.text.as_str() == word.text.as_str(),
         None => false,
     }
 }
 
-/// A candidate as an item that replaces a range.
-fn candidate_item<'a>(
-    alloc: Global,
-    candidate: &Candidate,
-    range: Range,
-) -> Result<Item<'a>, AllocError>
-    ensures { IfOk result
-        (λ item. item_data item ≡ wanted.item range (candidate_of candidate.now)) }
+/// A word as an item that replaces a range.
+fn word_item<'a>(alloc: Global, word: &Word, range: Range) -> Result<Item<'a>, AllocError>
+    ensures { IfOk result (λ item. item_data item ≡ wanted.item range (word_of word.now)) }
 {
     Ok(Item::Completion {
-        name: String::from_str(alloc, candidate.text.as_str())?,
-        kind: number_of(candidate.kind),
+        name: String::from_str(alloc, word.text.as_str())?,
+        kind: word.kind,
         range,
     })
 }
+
+/// The protocol's number of a keyword.
+const KEYWORD: usize = 14;
 
 /// The protocol's number of a kind of completion.
 fn number_of(kind: SymbolKind) -> usize

@@ -1,0 +1,3 @@
+pub mod Offers
+pub mod Places
+pub mod Steps
