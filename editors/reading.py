@@ -1,6 +1,7 @@
 """An independent reading of ISLE: the names of texts, where they are defined and used, and what renaming one makes of the texts."""
 
 import functools
+import math
 import re
 from typing import NamedTuple, Optional
 
@@ -15,6 +16,8 @@ SYMBOL = re.compile(r"[^();@\f \t\r\n]+")
 # How definitions are read, by their words.
 DEFINITIONS = {it: it for it in "type decl rule extractor extern convert attr spec model form instantiate".split()}
 DEFINITIONS |= {"macro": "other", "state": "other"}
+# A definition begins here, whatever lists are open before it.
+BEGINS = re.compile(rf"(?<![^\r\n])\((?:pragma|{'|'.join(DEFINITIONS)})(?![^();@\f \t\r\n])")
 RADIXES = {"x": 16, "o": 8, "b": 2}
 # So many broken definitions of one text are passed over.
 MOST_BROKEN = 100
@@ -458,6 +461,15 @@ class Reading:
     def is_broken(self):
         return self.broken > 0
 
+    def is_plain(self, mark):
+        """Whether the tokens of the whole text tell that a mark is in its definition: a line begins with that, and nothing hides either."""
+        begun = next(start for start, end in self.definitions if start <= mark.start < end)
+        return BEGINS.match(self.text, begun) is not None and {begun, mark.start} <= self.starts
+
+    @functools.cached_property
+    def starts(self):
+        return {it.start for it in tokens_of(self.text)[0]}
+
     def at(self, offset):
         """The name at a place, or right before it."""
         return next((it for it in self.marks if it.start <= offset <= it.end), None)
@@ -466,36 +478,77 @@ class Reading:
         return self.lines.range(mark.start, mark.end)
 
 
-class Items:
-    """What is in a list, as far as it is read: the kinds of its items, and the symbol that is its first one."""
+class Tree(NamedTuple):
+    """A list of a text, as far as it is written: tokens and lists."""
 
-    def __init__(self):
-        self.head, self.items, self.goes_on = None, [], False
+    start: int
+    end: float
+    items: list
+    kind: str = "list"
 
-    def add(self, kind, text=None):
-        if not self.items and kind == "symbol":
-            self.head = text
-        if kind == "@" or self.goes_on:
-            self.items[-1:] = ["joined"] if len(self.items) > 1 or not self.head else [*self.items[-1:], "joined"]
+
+def tree_from(tokens, number, starts):
+    """The list that begins with a token, and the number of the token behind it. Where a definition starts, one without its `)` ends."""
+    start, items, number = tokens[number].start, [], number + 1
+    while number < len(tokens) and tokens[number].start not in starts:
+        it, number = tokens[number], number + 1
+        if it.kind == ")":
+            return Tree(start, it.end, items), number
+        if it.kind == "(":
+            it, number = tree_from(tokens, number - 1, starts)
+        items.append(it)
+    return Tree(start, tokens[number].start + 1 if number < len(tokens) else math.inf, items), number
+
+
+def arguments_in(items, offset):
+    """The arguments among the items behind the head of a list that end before an offset: those that an `@` joins are one."""
+    found = []
+    for it in items[1:]:
+        if it.end < offset or (it.kind == "@" and it.end == offset):
+            if found and "@" in (it.kind, found[-1][-1].kind):
+                found[-1].append(it)
+            else:
+                found.append([it])
+    return found
+
+
+def head_before(items, offset):
+    """The symbol with which these begin, if it ends before an offset."""
+    return next((it.text for it in items[:1] if it.kind == "symbol" and it.end < offset), None)
+
+
+def call_in(definition, offset):
+    """The call around a place in a definition: the innermost of the lists around it that stand where the grammar has a pattern or an
+    expression, unless the place is directly in the bindings of a `let`, or in one of them."""
+    if head_before(definition.items, offset) not in ("rule", "extractor"):
+        return None
+    around, role, call = definition, "definition", None
+    while True:
+        inner = next((it for it in around.items if it.kind == "list" and it.start < offset < it.end), None)
+        if inner is None:
+            return call
+        if role == "value" and head_before(around.items, offset) == "let" and len(arguments_in(around.items, inner.start)) == 0:
+            role, call = "bindings", None
+        elif role == "bindings":
+            role, call = "binding", None
         else:
-            self.items.append(kind)
-        self.goes_on = kind == "@"
+            role, head, ended = "value", head_before(inner.items, offset), arguments_in(inner.items, offset)
+            goes_on = ended and ended[-1][-1].kind == "@"
+            call = (head, len(ended) - bool(goes_on)) if head else call
+        around = inner
 
 
 def call_around(text, offset):
     """The symbol that the innermost call around a place begins with, and how many arguments end before the place, or None."""
-    lists, (tokens, _) = [], tokens_of(text)
-    for it in tokens:
-        if it.end > offset:
-            break
-        if it.kind == "(":
-            lists.append(Items())
+    tokens, starts, number = tokens_of(text)[0], {it.start() for it in BEGINS.finditer(text)}, 0
+    while number < len(tokens):
+        if tokens[number].kind != "(":
+            number += 1
             continue
-        if it.kind == ")":
-            lists[-1:] = []
-        if lists and it.end < offset:
-            lists[-1].add("list" if it.kind == ")" else it.kind, it.text)
-    return next(((it.head, max(0, len(it.items) - 1 - it.goes_on)) for it in reversed(lists) if it.head), None)
+        tree, number = tree_from(tokens, number, starts)
+        if tree.start < offset < tree.end:
+            return call_in(tree, offset)
+    return None
 
 
 TYPES, TERMS, VALUES, NOTHING = {TYPE}, {TERM, "variant"}, {TERM, "variant", CONSTANT, VARIABLE}, set()

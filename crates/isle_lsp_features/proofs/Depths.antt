@@ -1,5 +1,5 @@
 -- How deep the answers about names nest.
-use Rattle.std.proofs.Common.{ℕ, ◌≤◌, ◌+◌, ◌-◌, min, length, inl, inr, List, [], ◌∷◌, Bool, true, false, Option, None, Some, Result, Ok, Err, if◌then◌else◌, flat_map, map, nat_lt, slice_get, arith}
+use Rattle.std.proofs.Common.{ℕ, ◌≤◌, ◌+◌, ◌-◌, min, length, inl, inr, List, [], ◌∷◌, Bool, true, false, Option, None, Some, Result, Ok, Err, if◌then◌else◌, filter, flat_map, map, nat_lt, slice_get, arith, subst, sym}
 use Rattle.std.specs.Global.{Vec}
 use Rattle.serde_json.specs.Data.{Data, Members, array, depth, members_depth, no_members}
 use Rattle.serde_json.specs.View.{items_of}
@@ -23,7 +23,7 @@ use Rattle.isle_lsp_protocol.specs.Replies.{Outcome, done, failed}
 use Rattle.isle_lsp_features.specs.Answers.{AreSymbols, FindsAt, IsAnswer, IsAnswerOf, IsFoundAt, IsRenamingAt, IsRenamingBy, IsRenamingOf, IsResolution, refused}
 use Rattle.isle_lsp_features.specs.Completed.{AreCompletions, item_name, once, range_before, word_of}
 use Rattle.isle_lsp_features.specs.Defined.{AreDocumentSymbols, is_variant, letters_of, number_of, range_of, symbol_data, symbol_in, symbols_from, workspace_symbols}
-use Rattle.isle_lsp_features.specs.Implemented.{AreImplementations, implementation_in, implementations_from, is_marked}
+use Rattle.isle_lsp_features.specs.Implemented.{AreImplementations, AreImplementationsFrom, AreImplementationsIn, AreImplementationsOf, is_implementation, is_term}
 use Rattle.isle_lsp_features.specs.Located.{AreHighlights, AreReferences, IsDefinition, highlight_of, location_in, locations_from}
 use Rattle.isle_lsp_features.specs.Places.{File, Place, file_in, place_in}
 use Rattle.isle_lsp_features.specs.Programs.{Question, Text}
@@ -41,11 +41,6 @@ one_shallow : (n : ℕ) (b : Bool) (d : Data) → depth d ≤ n → AreShallow n
 one_shallow n true d h = (h, tt)
 one_shallow n false d h = tt
 
--- these, if they are wanted
-if_shallow : (n : ℕ) (b : Bool) (ds : List Data) → AreShallow n ds → AreShallow n (if b then ds else [])
-if_shallow n true ds h = h
-if_shallow n false ds h = tt
-
 -- ---- places
 
 location_shallow : (number : ℕ) (s : Text) (own : Bool) (o : Occurrence) → AreShallow 4 (location_in number s own o)
@@ -62,20 +57,24 @@ definition_depth : (program : List Text) (name : Option NameNode) (all : List Se
 definition_depth program None all d h = at_most 5 _ _ h (omega arith)
 definition_depth program (Some name) all d h = at_most 5 _ _ h.2 (array_depth 4 _ (locations_shallow 0 program true h.0))
 
-marked_shallow : (number : ℕ) (s : Text) (marks : List ℕ) (o : Occurrence) → AreShallow 4 (implementation_in number s marks o)
-marked_shallow number s marks o = if_shallow 4 (is_marked o.pos.offset marks) _ (location_shallow number s true o)
+here_shallow : (number : ℕ) (s : Text) (found : List Occurrence) (ds : List Data) → AreImplementationsIn number s found ds → AreShallow 4 ds
+here_shallow number s found ds (marks, are, is) =
+    let kept = filter (is_implementation number marks) found in
+    subst (AreShallow 4) (sym is) (flat_map_shallow 4 (location_in number s true) kept (location_shallow number s true))
 
-implementations_shallow : (number : ℕ) (program : List Text) (marks : List (List ℕ)) (found : List Occurrence) → AreShallow 4 (implementations_from number program marks found)
-implementations_shallow number [] marks found = tt
-implementations_shallow number (s ∷ ss) [] found = tt
-implementations_shallow number (s ∷ ss) (m ∷ ms) found =
-    append_shallow 4 (flat_map (implementation_in number s m) found) (implementations_from (number + 1) ss ms found)
-    (flat_map_shallow 4 (implementation_in number s m) found (marked_shallow number s m))
-    (implementations_shallow (number + 1) ss ms found)
+implementations_shallow : (number : ℕ) (program : List Text) (found : List Occurrence) (ds : List Data) → AreImplementationsFrom number program found ds → AreShallow 4 ds
+implementations_shallow number [] found ds h = subst (AreShallow 4) (sym h) tt
+implementations_shallow number (s ∷ ss) found ds (here, rest, first, others, is) =
+    subst (AreShallow 4) (sym is)
+    (append_shallow 4 here rest (here_shallow number s found here first) (implementations_shallow (number + 1) ss found rest others))
+
+of_shallow : (is_term : Bool) (program : List Text) (name : NameNode) (all : List SeenNode) (ds : List Data) → AreImplementationsOf is_term program name all ds → AreShallow 4 ds
+of_shallow true program name all ds (found, order, are) = implementations_shallow 0 program found ds are
+of_shallow false program name all ds h = subst (AreShallow 4) (sym h) tt
 
 implementations_depth : (program : List Text) (name : Option NameNode) (all : List SeenNode) (d : Data) → AreImplementations program name all d → depth d ≤ 5
 implementations_depth program None all d h = at_most 5 _ _ h (omega arith)
-implementations_depth program (Some name) all d h = at_most 5 _ _ h.4 (array_depth 4 _ (implementations_shallow 0 program h.1 h.0))
+implementations_depth program (Some name) all d (ds, are, is) = at_most 5 _ _ is (array_depth 4 ds (of_shallow (is_term name) program name all ds are))
 
 references_depth : (program : List Text) (own : Bool) (name : Option NameNode) (all : List SeenNode) (d : Data) → AreReferences program own name all d → depth d ≤ 5
 references_depth program own None all d h = at_most 5 _ _ h (omega arith)

@@ -1,7 +1,6 @@
 -- The locations where names are implemented, as JSON.
-use Rattle.std.specs.Prelude.{◌≡◌, ℕ, ◌+◌, List, [], ◌∷◌, ◌++◌, Bool, ◌||◌, ◌==◌, true, false, Option, None, Some, map, if◌then◌else◌}
-use Rattle.std.specs.Global.{Vec}
-use Rattle.std.specs.List.{flat_map}
+use Rattle.std.specs.Prelude.{◌≡◌, ℕ, ◌+◌, List, [], ◌∷◌, ◌++◌, Bool, ◌&&◌, ◌||◌, ◌==◌, true, false, Option, None, Some}
+use Rattle.std.specs.List.{filter, flat_map}
 use Rattle.serde_json.specs.Data.{Data, null, array}
 use Rattle.serde_json.specs.View.{items_of}
 use Rattle.isle_index.specs.Occurrences.{occurrences}
@@ -9,40 +8,46 @@ use Rattle.isle_index.specs.declared.occurrences.Occurrence.{Occurrence}
 use Rattle.isle_lsp_features.specs.Located.{InOrder, location_in}
 use Rattle.isle_lsp_features.specs.Programs.{Text}
 use Rattle.isle_lsp_text.specs.Implementations.{AreImplemented}
-use Rattle.isle_resolve.specs.Names.{NameNode}
+use Rattle.isle_resolve.specs.Names.{NameNode, global, variable}
 use Rattle.isle_resolve.specs.Scopes.{SeenNode}
+use Rattle.isle_resolve.specs.declared.event.Kind.TheVariants as kinds
 
-abbrev pub offsets_of : List (Vec ℕ) → List (List ℕ)
-offsets_of marks = map (λ offsets. offsets.items) marks
-
--- These are the offsets at which each text implements a name.
-abbrev pub AreMarked : List Text → List (List ℕ) → Type 0
-AreMarked [] [] = Unit {0}
-AreMarked [] (m ∷ ms) = ⊥
-AreMarked (s ∷ ss) [] = ⊥
-AreMarked (s ∷ ss) (m ∷ ms) = AreImplemented s.text m × AreMarked ss ms
+abbrev pub is_term : NameNode → Bool
+is_term (global kinds.Term text) = true
+is_term (global kinds.Type text) = false
+is_term (global kinds.Constant text) = false
+is_term (variable binder text) = false
 
 abbrev pub is_marked : ℕ → List ℕ → Bool
 is_marked offset [] = false
 is_marked offset (m ∷ ms) = m == offset || is_marked offset ms
 
--- the location of an occurrence, if it is in the text with this number, and at one of its marks
-abbrev pub implementation_in : ℕ → Text → (marks : List ℕ) → Occurrence → List Data
-implementation_in number s marks o = if is_marked o.pos.offset marks then location_in number s true o else []
+-- an occurrence is in the text with this number
+abbrev pub is_in : ℕ → Occurrence → Bool
+is_in number o = o.pos.file == number
+
+-- an occurrence is in the text with this number, and at one of its marks
+abbrev pub is_implementation : ℕ → (marks : List ℕ) → Occurrence → Bool
+is_implementation number marks o = is_in number o && is_marked o.pos.offset marks
+
+-- the locations of the occurrences at which the text with this number implements a name
+abbrev pub AreImplementationsIn : ℕ → Text → List Occurrence → List Data → Type 0
+AreImplementationsIn number s found ds =
+    (marks : List ℕ) × AreImplemented s.text marks × (ds ≡ flat_map (location_in number s true) (filter (is_implementation number marks) found))
 
 -- the same of all texts, which are numbered from this number on
-abbrev pub implementations_from : ℕ → List Text → (marks : List (List ℕ)) → List Occurrence → List Data
-implementations_from number [] marks found = []
-implementations_from number (s ∷ ss) [] found = []
-implementations_from number (s ∷ ss) (m ∷ ms) found =
-    flat_map (implementation_in number s m) found ++ implementations_from (number + 1) ss ms found
+abbrev pub AreImplementationsFrom : ℕ → List Text → List Occurrence → List Data → Type 0
+AreImplementationsFrom number [] found ds = ds ≡ []
+AreImplementationsFrom number (s ∷ ss) found ds =
+    (here : List Data) × (rest : List Data) × AreImplementationsIn number s found here × AreImplementationsFrom (number + 1) ss found rest × (ds ≡ here ++ rest)
 
-abbrev pub implementations : List Text → (marks : List (List ℕ)) → List Occurrence → Data
-implementations program marks found = array (items_of (implementations_from 0 program marks found))
+-- the occurrences of a name at which the texts implement it; none if it is no term
+abbrev pub AreImplementationsOf : (is_term : Bool) → List Text → NameNode → List SeenNode → List Data → Type 0
+AreImplementationsOf true program name all ds =
+    (found : List Occurrence) × InOrder (occurrences name all) found × AreImplementationsFrom 0 program found ds
+AreImplementationsOf false program name all ds = ds ≡ []
 
--- the occurrences of a name at which the texts implement it; null if there is no name
+-- the same as JSON; null if there is no name
 abbrev pub AreImplementations : List Text → Option NameNode → List SeenNode → Data → Type 0
 AreImplementations program None all d = d ≡ null
-AreImplementations program (Some name) all d =
-    (found : List Occurrence) × (marks : List (List ℕ)) × InOrder (occurrences name all) found × AreMarked program marks
-    × (d ≡ implementations program marks found)
+AreImplementations program (Some name) all d = (ds : List Data) × AreImplementationsOf (is_term name) program name all ds × (d ≡ array (items_of ds))

@@ -6,7 +6,7 @@ use Rattle.isle_index.specs.declared.occurrences.Occurrence.{Occurrence}
 use Rattle.isle_lsp_features.specs.Located.{InOrder}
 use Rattle.isle_lsp_features.specs.Programs.{Text}
 use Rattle.isle_lsp_signatures.specs.Calls.{CallNode, IsCallAround}
-use Rattle.isle_lsp_signatures.specs.Signatures.{IsSignatureHelp}
+use Rattle.isle_lsp_signatures.specs.Signatures.{IsDeclarationHelp}
 use Rattle.isle_lsp_text.specs.Lists.{AreLists}
 use Rattle.isle_lsp_text.specs.Wholes.{whole_of}
 use Rattle.isle_lsp_text.specs.declared.lists.ListSpan.{ListSpan}
@@ -22,7 +22,7 @@ called c = global kinds.Term c.head
 abbrev pub IsDeclared : List ℕ → NameNode → Occurrence → (argument : ℕ) → Data → Type 0
 IsDeclared text name o argument d =
     let is_variant : Bool = nat_lt o.len (length (name_text name)) in
-    (lists : List ListSpan) × AreLists text lists × IsSignatureHelp text (whole_of text lists is_variant o.pos.offset o.len) is_variant argument d
+    (lists : List ListSpan) × AreLists text lists × IsDeclarationHelp text (whole_of text lists is_variant o.pos.offset o.len) is_variant argument d
 
 -- the same of a definition in a text; null if that is not in the program
 abbrev pub IsSignatureIn : Option Text → NameNode → Occurrence → (argument : ℕ) → Data → Type 0

@@ -1,24 +1,24 @@
 //! The locations where names are implemented.
 
-ghost use Rattle.std.specs.Prelude.{◌≡◌, ◌++◌, IfOk, OnOk, ℕ, List, length, map, option_map};
-ghost use Rattle.std.specs.Prelude.{option_to_list};
-ghost use Rattle.std.specs.List.{flat_map};
+ghost use Rattle.std.specs.Prelude.{◌≡◌, ◌++◌, IfOk, OnOk, List, filter, map};
+ghost use Rattle.std.specs.List.{list_any};
+ghost use Rattle.serde_json.specs.Data.{Data};
 ghost use Rattle.isle_index.specs.Held.{all_in};
 ghost use Rattle.isle_index.specs.Occurrences.{name_at};
 ghost use Rattle.isle_lsp_features.specs.Answers.{list_data};
 ghost use Rattle.isle_lsp_features.specs.Implemented as wanted;
-ghost use Rattle.isle_lsp_features.specs.Implemented.{AreImplementations, AreMarked, offsets_of};
+ghost use Rattle.isle_lsp_features.specs.Implemented.{AreImplementations, AreImplementationsFrom};
+ghost use Rattle.isle_lsp_features.specs.Implemented.{AreImplementationsIn};
 ghost use Rattle.isle_lsp_features.specs.Programs.{text_of};
-ghost use Rattle.isle_lsp_protocol.specs.Items.{item_data, items_data};
-ghost use Rattle.isle_lsp_text.specs.Positions.{IsPlace};
+ghost use Rattle.isle_lsp_protocol.specs.Items.{item_data};
+ghost use Rattle.isle_resolve.specs.Names.{named_of};
 
 use crate::Text;
-use crate::locations::location_in;
+use crate::locations::add_locations;
 use crate::places::Place;
-use isle_index::{Index, Occurrence};
+use isle_index::{Index, Kind, Name, Occurrence};
 use isle_lsp_protocol::items::Item;
 use isle_lsp_text::implementations::implemented;
-use isle_lsp_text::positions::{Place as TextPlace, START};
 use std::alloc::{AllocError, Global};
 
 /// The rules, the extractor and the `extern` definitions of the term at a place, each by the name
@@ -33,86 +33,91 @@ pub fn implementations<'a>(
         (map text_of program.now) (name_at place.entry.pos all) all (list_data items)) }
 {
     match index.name_at(alloc, place.pos)? {
-        Some(name) => {
+        Some(name) if is_term(&name) => {
             let found = index.occurrences(alloc, &name)?;
-            let marks = marks_of(alloc, program)?;
-            Ok(Some(implementations_in(alloc, program, &marks, &found)?))
+            Ok(Some(implementations_in(alloc, program, &found)?))
         }
+        Some(_) => Ok(Some(Vec::new(alloc))),
         None => Ok(None),
     }
 }
 
-/// The offsets at which each text implements a name.
-fn marks_of(alloc: Global, program: &[Text]) -> Result<Vec<Vec<usize>>, AllocError>
-    ensures { IfOk result
-        (λ marks. AreMarked (map text_of program.now) (offsets_of marks.items)) }
+/// Returns whether a name is that of a term.
+fn is_term(name: &Name) -> bool
+    ensures { result ≡ wanted.is_term (named_of name.now) }
 {
-    let mut marks = Vec::new(alloc);
-    for source in program {
-        marks.push(implemented(alloc, source.text)?)?;
+    match name {
+        Name::Global { kind, .. } => matches!(kind, Kind::Term),
+        Name::Variable { .. } => false,
     }
-    Ok(marks)
 }
 
-/// The locations of those occurrences that are at the marks of their texts, text by text.
+/// The locations of those occurrences at which the texts implement a name, text by text.
 fn implementations_in<'a>(
     alloc: Global,
     program: &[Text<'a>],
-    marks: &[Vec<usize>],
     found: &[Occurrence],
 ) -> Result<Vec<Item<'a>>, AllocError>
-    ensures { IfOk result (λ items. items_data items.items
-        ≡ wanted.implementations (map text_of program.now) (offsets_of marks.now) found.now) }
+    ensures { IfOk result (λ items. AreImplementationsFrom 0 (map text_of program.now)
+        found.now (map item_data items.items)) }
 {
     let mut items = Vec::new(alloc);
     for (number, source) in program.iter().enumerate() {
-        if number >= marks.len() {
-            return Ok(items);
-        }
-        add_implementations(number, *source, &marks[number], found, &mut items)?;
+        add_implementations(alloc, number, *source, found, &mut items)?;
     }
     Ok(items)
 }
 
-/// Adds the locations of the occurrences in the text with this number that are at its marks.
+/// Adds the locations of the occurrences at which the text with this number implements a name. A
+/// text without an occurrence is not read.
 fn add_implementations<'a>(
+    alloc: Global,
     number: usize,
     source: Text<'a>,
-    marks: &[usize],
     found: &[Occurrence],
     items: &mut Vec<Item<'a>>,
 ) -> Result<(), AllocError>
-    ensures { OnOk result (map item_data items.new.items ≡ map item_data items.old.items
-        ++ flat_map (wanted.implementation_in number (text_of source.entry) marks.now)
-        found.now) }
+    ensures { OnOk result ((here : List Data)
+        × AreImplementationsIn number (text_of source.entry) found.now here
+        × (map item_data items.new.items ≡ map item_data items.old.items ++ here)) }
 {
-    let mut near = START;
-    for occurrence in found {
-        if let Some(item) = implementation_in(number, source, marks, &mut near, *occurrence) {
-            items.push(item)?;
-        }
+    if has_some(number, found) {
+        let marks = implemented(alloc, source.text)?;
+        let marked = implementations_of(alloc, number, &marks, found)?;
+        add_locations(number, source, true, &marked, items)?;
     }
     Ok(())
 }
 
-/// The location of an occurrence, if it is in the text with this number, and at one of its marks.
-fn implementation_in<'a>(
-    number: usize,
-    source: Text<'a>,
-    marks: &[usize],
-    near: &mut TextPlace,
-    occurrence: Occurrence,
-) -> Option<Item<'a>>
-    requires { IsPlace source.text.now near.old }
-    ensures item { option_to_list (option_map item_data result)
-        ≡ wanted.implementation_in number (text_of source.entry) marks.now occurrence }
-    ensures near { IsPlace source.entry.text.now near.new }
+/// Returns whether one of these occurrences is in the text with this number.
+fn has_some(number: usize, found: &[Occurrence]) -> bool
+    ensures { result ≡ list_any (wanted.is_in number) found.now }
 {
-    if is_marked(marks, occurrence.pos.offset) {
-        location_in(number, source, true, near, occurrence)
-    } else {
-        None
+    for occurrence in found {
+        if occurrence.pos.file == number {
+            return true;
+        }
     }
+    false
+}
+
+/// The occurrences in the text with this number that are at its marks.
+fn implementations_of(
+    alloc: Global,
+    number: usize,
+    marks: &[usize],
+    found: &[Occurrence],
+) -> Result<Vec<Occurrence>, AllocError>
+    ensures { IfOk result (λ marked. marked.items
+        ≡ filter (wanted.is_implementation number marks.now) found.now) }
+{
+    let mut marked = Vec::new(alloc);
+    for occurrence in found {
+        if occurrence.pos.file == number && is_marked(marks, occurrence.pos.offset) {
+            marked.push(*occurrence)?;
+        }
+    }
+    Ok(marked)
 }
 
 /// Returns whether an offset is among these.

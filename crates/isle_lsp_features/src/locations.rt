@@ -97,7 +97,7 @@ fn locations<'a>(
 }
 
 /// Adds the locations of the occurrences in the text with this number.
-fn add_locations<'a>(
+pub(crate) fn add_locations<'a>(
     number: usize,
     source: Text<'a>,
     with_definitions: bool,
@@ -118,7 +118,7 @@ fn add_locations<'a>(
 }
 
 /// The location of an occurrence, if it is in the text with this number and is asked for.
-pub(crate) fn location_in<'a>(
+fn location_in<'a>(
     number: usize,
     source: Text<'a>,
     with_definitions: bool,

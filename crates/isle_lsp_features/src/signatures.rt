@@ -14,7 +14,7 @@ use crate::hover::source_at;
 use crate::places::Place;
 use isle_index::{Index, Kind, Name, Occurrence};
 use isle_lsp_signatures::calls::{Call, call_around};
-use isle_lsp_signatures::signatures;
+use isle_lsp_signatures::signatures::declaration_help;
 use isle_lsp_text::lists::lists;
 use isle_lsp_text::wholes::whole_of;
 use serde_json::Value;
@@ -94,5 +94,5 @@ fn declared(
         definition.pos.offset,
         definition.len,
     );
-    signatures::signature_help(alloc, text, part, is_variant, argument)
+    declaration_help(alloc, text, part, is_variant, argument)
 }

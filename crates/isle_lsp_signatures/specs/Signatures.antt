@@ -1,7 +1,8 @@
 -- The signature that a declaration shows, as JSON.
-use Rattle.std.specs.Prelude.{◌≡◌, ℕ, ◌+◌, ◌-◌, List, [], ◌∷◌, ◌++◌, Bool, true, false, not, ◌&&◌, ◌==◌, codes, drop, length, map, nat_le, slice_index, slice_range, take, if◌then◌else◌}
+use Rattle.std.specs.Prelude.{◌≡◌, ℕ, List, [], ◌∷◌, ◌++◌, Bool, true, false, not, ◌&&◌, ◌==◌, codes, drop, length, map, nat_le, slice_index, slice_range, take, if◌then◌else◌}
 use Rattle.isle_base.specs.Lexing.{lexes}
 use Rattle.isle_base.specs.Token.{Ending, Lexeme, Tok, at_sign, integer, lparen, rparen, symbol}
+use Rattle.isle_lsp_text.specs.Lists.{depth_after}
 use Rattle.isle_lsp_text.specs.Positions.{is_inner, units}
 use Rattle.isle_lsp_text.specs.declared.wholes.Part.{Part}
 use Rattle.serde_json.specs.Data.{Data, array, member, no_members, number, object, string, unsigned}
@@ -27,14 +28,6 @@ ends_list (symbol _) depth = false
 ends_list (integer _) depth = false
 ends_list at_sign depth = false
 
--- how many inner lists are open after a token
-abbrev pub depth_after : Tok → (depth : ℕ) → ℕ
-depth_after lparen depth = depth + 1
-depth_after rparen depth = depth - 1
-depth_after (symbol _) depth = depth
-depth_after (integer _) depth = depth
-depth_after at_sign depth = depth
-
 abbrev pub part : (from to : ℕ) → Part
 part from to = record { from = from; to = to }
 
@@ -44,7 +37,7 @@ abbrev pub items_from : (depth from : ℕ) → List Lexeme → List Part
 items_from depth from [] = []
 items_from depth from (x ∷ xs) =
     let start : ℕ = if depth == 0 then x.offset else from in
-    let open_lists : ℕ = depth_after x.token depth in
+    let open_lists : ℕ = depth_after depth x.token in
     if ends_list x.token depth then [] else
     ((if open_lists == 0 then part start x.after ∷ [] else []) ++ items_from open_lists start xs)
 
@@ -86,8 +79,8 @@ signature_data label ps =
     object (member (codes "label") (string label) (member (codes "parameters") (array (items_of (map (parameter_data label) ps))) no_members))
 
 -- This is the signature with this label.
-abbrev pub IsSignature : (label : List ℕ) → (is_variant : Bool) → Data → Type 0
-IsSignature label is_variant d = (found : List Part) × AreParameters label is_variant found × (d ≡ signature_data label found)
+abbrev pub IsSignatureWith : (label : List ℕ) → (is_variant : Bool) → Data → Type 0
+IsSignatureWith label is_variant d = (found : List Part) × AreParameters label is_variant found × (d ≡ signature_data label found)
 
 abbrev pub help_data : (signature : Data) → (argument : ℕ) → Data
 help_data signature argument =
@@ -95,6 +88,6 @@ help_data signature argument =
     (member (codes "signatures") (array (items_of (signature ∷ []))) no_members)))
 
 -- This is the signature help for a declaration, which is this part of a text, at an argument.
-abbrev pub IsSignatureHelp : List ℕ → Part → (is_variant : Bool) → (argument : ℕ) → Data → Type 0
-IsSignatureHelp text declaration is_variant argument d =
-    (signature : Data) × IsSignature (written text declaration) is_variant signature × (d ≡ help_data signature argument)
+abbrev pub IsDeclarationHelp : List ℕ → Part → (is_variant : Bool) → (argument : ℕ) → Data → Type 0
+IsDeclarationHelp text declaration is_variant argument d =
+    (signature : Data) × IsSignatureWith (written text declaration) is_variant signature × (d ≡ help_data signature argument)

@@ -3,13 +3,15 @@
 ghost use Rattle.std.specs.Prelude.{◌≡◌, ◌+◌, ◌<◌, ◌^◌, [], IfOk, OnOk, option_map, ℕ};
 ghost use Rattle.isle_base.specs.TokenView.{token_of_ref};
 ghost use Rattle.isle_lsp_signatures.specs.Calls.{AreAtMost, IsCallAround, argument_count, call_of};
-ghost use Rattle.isle_lsp_signatures.specs.Calls.{counted, innermost, is_fault_before, joined};
-ghost use Rattle.isle_lsp_signatures.specs.Calls.{level_after, level_of, levels_of, lists_after};
-ghost use Rattle.isle_lsp_signatures.specs.Calls.{lists_at, nested, with_item};
+ghost use Rattle.isle_lsp_signatures.specs.Calls.{awaits_bindings, counted, innermost, inside};
+ghost use Rattle.isle_lsp_signatures.specs.Calls.{is_fault_before, joined, level_after, level_of};
+ghost use Rattle.isle_lsp_signatures.specs.Calls.{levels_of, lists_after, lists_at, lists_before};
+ghost use Rattle.isle_lsp_signatures.specs.Calls.{nested, opened, with_item};
 
 use crate::scanning::pass;
 use isle_base::lexer::Fault;
 use isle_base::scanner::{Scanner, TokenRef};
+use isle_lsp_text::definitions::begins_definition;
 use std::alloc::{AllocError, Global};
 
 /// A call, as far as it is written.
@@ -24,23 +26,34 @@ pub struct Call<'a> {
 /// A list that is open at a place, as far as it is written.
 #[derive(Clone, Copy)]
 enum Level<'a> {
-    /// Nothing is in it yet.
+    /// A definition with nothing in it yet.
+    Definition,
+    /// A list that is no call, but has calls in it: a rule, an extractor or a binding of a `let`.
+    Holder,
+    /// The bindings of a `let`.
+    Bindings,
+    /// A list of another definition.
+    Other,
+    /// An expression or a pattern with nothing in it yet.
     Empty,
-    /// It begins with something other than a symbol.
+    /// One that begins with something other than a symbol.
     Headless,
-    /// It begins with a symbol.
+    /// One that begins with a symbol.
     Call(Call<'a>),
 }
 
 /// The call that a byte offset of a text is in.
 ///
-/// It is the innermost list around the offset that begins with a symbol which ends before the
-/// offset. Its `)` may be missing, and one that ends at the offset ends the list. An argument is a
-/// symbol, an integer or a list behind the first symbol, and one that ends at the offset does not
-/// count yet. An `@` before the offset makes what is on its sides one argument, as in `x @ (f y)`.
+/// It is the innermost list in a rule or in an extractor around the offset that begins with a symbol
+/// which ends before the offset. Its `)` may be missing, and one that ends at the offset ends the
+/// list. An argument is a symbol, an integer or a list behind the first symbol, and one that ends at
+/// the offset does not count yet. An `@` that ends at the offset or before it makes what is on its
+/// sides one argument, as in `x @ (f y)`.
 ///
-/// Parentheses in comments do not count. It is `None` outside of such lists, and if a lexical error
-/// is before the offset.
+/// The list of the bindings of a `let` is no call, and neither is a binding in it: between the calls
+/// in a binding it is `None`, as it is outside of calls, and if a lexical error is before the
+/// offset. Parentheses in comments do not count, and lists that are open where a definition begins
+/// (`begins_definition`) end there.
 pub fn call_around<'a>(
     alloc: Global,
     text: &'a str,
@@ -50,7 +63,7 @@ pub fn call_around<'a>(
 {
     match Scanner::new(alloc, 0, text) {
         Ok(scanner) => {
-            let lists = lists_at(alloc, scanner, offset)?;
+            let lists = lists_at(alloc, text, scanner, offset)?;
             Ok(innermost(lists))
         }
         Err(Fault::Error(_)) => Ok(None),
@@ -58,23 +71,25 @@ pub fn call_around<'a>(
     }
 }
 
-/// The lists that are open at an offset, the innermost last, by the tokens that a scanner has not
-/// read yet. There are none if a lexical error is before the offset.
+/// The lists that are open at an offset of a text, the innermost last, by the tokens that a scanner
+/// has not read yet. There are none if a lexical error is before the offset.
 fn lists_at<'a>(
     alloc: Global,
+    text: &str,
     mut scanner: Scanner<'a>,
     offset: usize,
 ) -> Result<Vec<Level<'a>>, AllocError>
     ensures { IfOk result (λ lists. levels_of lists.items
-        ≡ lists_at offset scanner.entry.ending [] scanner.entry.coming) }
+        ≡ lists_at text.now offset scanner.entry.ending [] scanner.entry.coming) }
 {
     let mut lists = Vec::new(alloc);
     while let Some(ahead) = scanner.peek() {
-        let (_, token) = *ahead;
+        let (pos, token) = *ahead;
         let to = scanner.pos().offset;
         if to > offset {
             return Ok(lists);
         }
+        end_before(text, pos.offset, &mut lists);
         add(&mut lists, token, to < offset)?;
         pass(alloc, &mut scanner)?;
     }
@@ -92,7 +107,19 @@ fn is_fault_before(scanner: &Scanner, offset: usize) -> bool
     !scanner.eof() && scanner.pos().offset < offset
 }
 
-/// Processes a token, which counts as an item only if it ends before the place.
+/// Ends all lists before a token at an offset of a text, if a definition begins there.
+#[tactic(auto, unfolding(crate::specs::Calls::lists_before))]
+fn end_before(text: &str, offset: usize, lists: &mut Vec<Level>)
+    ensures { levels_of lists.new.items
+        ≡ lists_before text.now offset (levels_of lists.old.items) }
+{
+    if begins_definition(text, offset) {
+        lists.clear();
+    }
+}
+
+/// Processes a token. One that ends at the place does not count as an item yet, but after an `@` the
+/// last item goes on at once.
 fn add<'a>(
     lists: &mut Vec<Level<'a>>,
     token: TokenRef<'a>,
@@ -103,7 +130,7 @@ fn add<'a>(
         ≡ lists_after ends_before (token_of_ref token.entry) (levels_of lists.old.items)) }
 {
     nest(lists, token)?;
-    if ends_before {
+    if ends_before || matches!(token, TokenRef::At) {
         count(lists, token)?;
     }
     Ok(())
@@ -115,13 +142,48 @@ fn nest<'a>(lists: &mut Vec<Level<'a>>, token: TokenRef<'a>) -> Result<(), Alloc
         ≡ nested (token_of_ref token.entry) (levels_of lists.old.items)) }
 {
     match token {
-        TokenRef::LParen => lists.push(Level::Empty)?,
+        TokenRef::LParen => open(lists)?,
         TokenRef::RParen => {
             lists.pop();
         }
         TokenRef::Symbol(_) | TokenRef::Int(_) | TokenRef::At => {}
     }
     Ok(())
+}
+
+/// Opens a list in the innermost one.
+fn open(lists: &mut Vec<Level>) -> Result<(), AllocError>
+    ensures { OnOk result
+        (levels_of lists.new.items ≡ opened (levels_of lists.old.items)) }
+{
+    match lists.pop() {
+        Some(level) => {
+            lists.push(level)?;
+            lists.push(inside(level))?;
+        }
+        None => lists.push(Level::Definition)?,
+    }
+    Ok(())
+}
+
+/// A list that begins in this one.
+fn inside(level: Level) -> Level
+    ensures { level_of result ≡ inside (level_of level.entry) }
+{
+    match level {
+        Level::Definition | Level::Other => Level::Other,
+        Level::Bindings => Level::Holder,
+        Level::Holder | Level::Empty | Level::Headless => Level::Empty,
+        Level::Call(call) if awaits_bindings(call) => Level::Bindings,
+        Level::Call(_) => Level::Empty,
+    }
+}
+
+/// Returns whether the next list in a call is that of the bindings of a `let`.
+fn awaits_bindings(call: Call) -> bool
+    ensures { result ≡ awaits_bindings (call_of call.entry) }
+{
+    call.head == "let" && call.arguments == 0
 }
 
 /// Counts a token in the innermost list.
@@ -143,6 +205,7 @@ fn level_after<'a>(level: Level<'a>, token: TokenRef<'a>) -> Level<'a>
 {
     match (token, level) {
         (TokenRef::LParen, _) => level,
+        (TokenRef::Symbol("rule" | "extractor"), Level::Definition) => Level::Holder,
         (TokenRef::Symbol(head), Level::Empty) => Level::Call(Call { head, arguments: 0 }),
         (TokenRef::RParen | TokenRef::Symbol(_) | TokenRef::Int(_), _) => with_item(level),
         (TokenRef::At, _) => joined(level),
@@ -155,6 +218,8 @@ fn with_item(level: Level) -> Level
     ensures { level_of result ≡ with_item (level_of level.entry) }
 {
     match level {
+        Level::Definition => Level::Other,
+        Level::Holder | Level::Bindings | Level::Other => level,
         Level::Empty | Level::Headless => Level::Headless,
         Level::Call(call) => Level::Call(Call {
             head: call.head,
@@ -168,6 +233,8 @@ fn joined(level: Level) -> Level
     ensures { level_of result ≡ joined (level_of level.entry) }
 {
     match level {
+        Level::Definition => Level::Other,
+        Level::Holder | Level::Bindings | Level::Other => level,
         Level::Empty | Level::Headless => Level::Headless,
         Level::Call(call) => Level::Call(Call {
             head: call.head,
@@ -181,8 +248,10 @@ fn innermost<'a>(mut lists: Vec<Level<'a>>) -> Option<Call<'a>>
     ensures { option_map call_of result ≡ innermost (levels_of lists.entry.items) }
 {
     while let Some(level) = lists.pop() {
-        if let Level::Call(call) = level {
-            return Some(call);
+        match level {
+            Level::Call(call) => return Some(call),
+            Level::Empty | Level::Headless => {}
+            Level::Definition | Level::Holder | Level::Bindings | Level::Other => return None,
         }
     }
     None

@@ -1,13 +1,14 @@
 //! The parameters of a declaration.
 
-ghost use Rattle.std.specs.Prelude.{◌≡◌, ◌+◌, ◌<◌, ◌^◌, IfOk, OnOk};
+ghost use Rattle.std.specs.Prelude.{◌≡◌, IfOk, OnOk};
 ghost use Rattle.isle_base.specs.TokenView.{token_of_ref};
-ghost use Rattle.isle_lsp_signatures.specs.Signatures.{AreParameters, behind_opening, depth_after};
-ghost use Rattle.isle_lsp_signatures.specs.Signatures.{ends_list, items_from, parameters};
+ghost use Rattle.isle_lsp_signatures.specs.Signatures.{AreParameters, behind_opening, ends_list};
+ghost use Rattle.isle_lsp_signatures.specs.Signatures.{items_from, parameters};
 
 use crate::scanning::pass;
 use isle_base::lexer::Fault;
 use isle_base::scanner::{Scanner, TokenRef};
+use isle_lsp_text::lists::depth_after;
 use isle_lsp_text::wholes::Part;
 use std::alloc::{AllocError, Global};
 
@@ -79,7 +80,7 @@ fn items_ahead(alloc: Global, mut scanner: Scanner) -> Result<Vec<Part>, AllocEr
         if depth == 0 {
             from = pos.offset;
         }
-        depth = depth_after(depth, token);
+        depth = depth_after(depth, token)?;
         if depth == 0 {
             let to = scanner.pos().offset;
             found.push(Part { from, to })?;
@@ -96,17 +97,5 @@ fn ends_list(token: TokenRef, depth: usize) -> bool
     match token {
         TokenRef::RParen => depth == 0,
         TokenRef::LParen | TokenRef::Symbol(_) | TokenRef::Int(_) | TokenRef::At => false,
-    }
-}
-
-/// The number of inner lists that are open after a token.
-fn depth_after(depth: usize, token: TokenRef) -> usize
-    requires { depth + 1 < 2 ^ 64 }
-    ensures { result ≡ depth_after (token_of_ref token.entry) depth }
-{
-    match token {
-        TokenRef::LParen => depth + 1,
-        TokenRef::RParen => depth.saturating_sub(1),
-        TokenRef::Symbol(_) | TokenRef::Int(_) | TokenRef::At => depth,
     }
 }

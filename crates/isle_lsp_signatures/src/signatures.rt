@@ -2,7 +2,7 @@
 
 ghost use Rattle.std.specs.Prelude.{◌≡◌, IfOk, IsCharBoundary, IsTrue};
 ghost use Rattle.serde_json.specs.View.{view};
-ghost use Rattle.isle_lsp_signatures.specs.Signatures.{IsSignature, IsSignatureHelp, can_cut};
+ghost use Rattle.isle_lsp_signatures.specs.Signatures.{IsSignatureWith, IsDeclarationHelp, can_cut};
 ghost use Rattle.isle_lsp_signatures.specs.Signatures.{help_data, parameter_data, written};
 
 use crate::parameters::parameters;
@@ -19,7 +19,7 @@ use std::alloc::{AllocError, Global};
 /// list in the declaration, or those behind the name if it is a variant of an enum. Each is given
 /// by the offsets in the label at which it begins and ends, in UTF-16 units, line ends included.
 /// The argument is given as it is, also if there are fewer parameters.
-pub fn signature_help(
+pub fn declaration_help(
     alloc: Global,
     text: &str,
     part: Part,
@@ -27,7 +27,7 @@ pub fn signature_help(
     argument: usize,
 ) -> Result<Value, AllocError>
     ensures { IfOk result
-        (λ value. IsSignatureHelp text.now part is_variant argument (view value)) }
+        (λ value. IsDeclarationHelp text.now part is_variant argument (view value)) }
 {
     let signature = signature(alloc, written(text, part), is_variant)?;
     help_value(alloc, signature, argument)
@@ -67,7 +67,7 @@ fn can_cut(text: &str, offset: usize) -> bool
 
 /// The signature with this label.
 fn signature(alloc: Global, label: &str, is_variant: bool) -> Result<Value, AllocError>
-    ensures { IfOk result (λ value. IsSignature label.now is_variant (view value)) }
+    ensures { IfOk result (λ value. IsSignatureWith label.now is_variant (view value)) }
 {
     let mut values = Vec::new(alloc);
     for parameter in &parameters(alloc, label, is_variant)? {

@@ -1,7 +1,9 @@
 //! Units of UTF-16.
 
-ghost use Rattle.std.specs.Prelude.{◌≡◌, ◌≤◌, take};
-ghost use Rattle.isle_lsp_text.specs.Positions.{unit_count, units};
+ghost use Rattle.std.specs.Prelude.{◌≡◌, take};
+ghost use Rattle.isle_lsp_text.specs.Positions.{units};
+
+use isle_lsp_text::positions::unit_count;
 
 /// The number of UTF-16 units of the characters that begin before a byte offset of a text, line
 /// ends included. An offset past the end of the text means its end.
@@ -14,18 +16,4 @@ pub fn units_before(text: &str, offset: usize) -> usize
         units += unit_count(*byte);
     }
     units
-}
-
-/// The number of UTF-16 units of the character that begins with this byte; 0 if none does.
-fn unit_count(byte: u8) -> usize
-    ensures count { result ≡ unit_count byte }
-    ensures bound { result ≤ 2 }
-{
-    if byte > 127 && byte < 192 {
-        0
-    } else if byte < 240 {
-        1
-    } else {
-        2
-    }
 }

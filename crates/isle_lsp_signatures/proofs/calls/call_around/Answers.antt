@@ -6,4 +6,4 @@ use Rattle.isle_lsp_signatures.proofs.calls.call_around.Goals as goal
 pub returns-in-Err-Error : goal.returns-in-Err-Error
 returns-in-Err-Error c =
     let refused = rw c.in-Err-Error.field-0-is at c.in-Err-Error.ensures.refused in
-    record { tokens = []; ending = fault refused.0; lexed = refused.1; is = none_at c.args.offset (fault refused.0) }
+    record { tokens = []; ending = fault refused.0; lexed = refused.1; is = none_at c.args.text.now c.args.offset (fault refused.0) }

@@ -6,7 +6,7 @@ use Rattle.isle_lsp_signatures.proofs.calls.lists_at.Given as goal
 
 abbrev pub invariant-loop-ahead : goal.invariant-loop-ahead
 invariant-loop-ahead l = record {
-  lists : lists_at l.offset l.scanner.ending (levels_of l.lists.items) l.scanner.coming ≡ lists_at l.offset l.fn.scanner.ending [] l.fn.scanner.coming;
+  lists : lists_at l.text l.offset l.scanner.ending (levels_of l.lists.items) l.scanner.coming ≡ lists_at l.text l.offset l.fn.scanner.ending [] l.fn.scanner.coming;
   few : Rises 0 l.scanner.coming → AreFew (levels_of l.lists.items) l.scanner.coming;
 }
 
