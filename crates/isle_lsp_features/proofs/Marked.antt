@@ -1,12 +1,13 @@
 -- What is found text by text, also in texts in which a name does not occur.
-use Rattle.std.proofs.Common.{◌≡◌, ◌∙◌, ◌+◌, ◌++◌, ◌&&◌, ◌||◌, ℕ, List, [], ◌∷◌, Bool, true, false, ap, arith, filter, flat_map, length, refl, subst, sym}
+use Rattle.std.proofs.Common.{◌≡◌, ◌∙◌, ◌+◌, ◌++◌, ℕ, List, [], ◌∷◌, true, false, ap, arith, filter, flat_map, length, refl, subst, sym}
+use Rattle.std.proofs.lemmas.Bool.{or_parts}
 use Rattle.std.proofs.lemmas.List.{append_assoc}
 use Rattle.std.specs.List.{list_any}
 use Rattle.isle_base.proofs.Exists.{computed_sound}
 use Rattle.isle_base.specs.Computed.{computed}
 use Rattle.serde_json.specs.Data.{Data}
 use Rattle.isle_index.specs.declared.occurrences.Occurrence.{Occurrence}
-use Rattle.isle_lsp_features.specs.Implemented.{AreImplementationsFrom, AreImplementationsIn, is_implementation, is_in, is_marked}
+use Rattle.isle_lsp_features.specs.Implemented.{AreImplementationsFrom, AreImplementationsIn, is_implementation, is_in}
 use Rattle.isle_lsp_features.specs.Located.{location_in}
 use Rattle.isle_lsp_features.specs.Programs.{Text}
 use Rattle.isle_lsp_text.specs.Implementations.{AreImplemented, implemented_from}
@@ -24,14 +25,10 @@ marks_are text = record {
   are = refl;
 }
 
-neither : (a b : Bool) → (a || b) ≡ false → (a ≡ false) × (b ≡ false)
-neither true b h = absurd cc
-neither false b h = (refl, h)
-
 pub none_marked : (number : ℕ) (marks : List ℕ) (found : List Occurrence) → list_any (is_in number) found ≡ false → filter (is_implementation number marks) found ≡ []
 none_marked number marks [] h = refl
 none_marked number marks (o ∷ os) h =
-    let both = neither (is_in number o) (list_any (is_in number) os) h in
+    let both = or_parts (is_in number o) (list_any (is_in number) os) h in
     rw both.0 (none_marked number marks os both.1)
 
 -- nothing, in a text that is not read
