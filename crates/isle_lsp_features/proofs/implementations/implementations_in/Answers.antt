@@ -1,4 +1,4 @@
-use Rattle.std.proofs.Common.{◌≡◌, ◌+◌, ◌∷◌, ◌∙◌, [], ap, arith, drop, drop_of_length-le, map, refl, subst, sym}
+use Rattle.std.proofs.Common.{◌≡◌, ◌+◌, [], ap, arith, drop, drop_of_length-le, map, refl, subst, sym}
 use Rattle.std.proofs.lemmas.List.{append-nil, drop_more}
 use Rattle.isle_lsp_features.proofs.Marked.{next_implementations}
 use Rattle.isle_lsp_features.specs.Implemented.{AreImplementationsFrom}
@@ -10,10 +10,9 @@ pub loop-number-preserved : goal.loop-number-preserved
 loop-number-preserved c =
     let program = c.args.program.now in
     let i = c.loop-number.number in
-    let source = c.source-item.result in
-    let left = drop_more program i source c.loop-number-test.true ∙ ap (λ q. q ∷ drop (i + 1) program) (sym c.source-item.is) in
     let added = c.in_ok-add_implementations.ensures in
-    next_implementations _ (map text_of (drop (i + 1) program)) _ (text_of source) i c.args.found.now _ _ added.0 (ap (map text_of) left) added.1 added.2 c.loop-number.invariant
+    next_implementations _ (map text_of (drop (i + 1) program)) _ _ i c.args.found.now _ _ added.0 (ap (map text_of) (drop_more program i _ c.loop-number-test.true)) added.1 added.2
+    c.loop-number.invariant
 
 pub returns : goal.returns
 returns c =
