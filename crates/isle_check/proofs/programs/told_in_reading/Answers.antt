@@ -8,9 +8,9 @@ use Rattle.isle_check.specs.Report as report
 use Rattle.isle_program.proofs.WritableLemmas.{reading-plain}
 use Rattle.isle_check.proofs.programs.told_in_reading.Goals as goal
 
-pub told_in-requires-clause-plain : goal.told_in-requires-clause-plain
-told_in-requires-clause-plain c =
-    subst (λ defs. definitions_have_macro_arg (definitions_of defs) ≡ false) (sym c.deref-2.ensures.value)
+pub told_in-requires : goal.told_in-requires
+told_in-requires c =
+    subst (λ defs. definitions_have_macro_arg (definitions_of defs) ≡ false) (sym c.deref.ensures.value)
     (reading-plain (map source_of c.args.own.now) (definitions_of c.args.reading.now.defs.items) c.args.reading.now.refusals.items c.requires)
 
 pub returns : goal.returns
@@ -20,6 +20,6 @@ returns c =
       definitions = definitions_of c.args.reading.now.defs.items;
       refusals = c.args.reading.now.refusals.items;
       read = c.requires;
-      is = is ∙ ap (λ defs. report.told_in (map given_of c.args.arguments.now) (map source_of c.args.own.now) (definitions_of defs)) c.deref-2.ensures.value;
+      is = is ∙ ap (λ defs. report.told_in (map given_of c.args.arguments.now) (map source_of c.args.own.now) (definitions_of defs)) c.deref.ensures.value;
     })
     c.told_in.ensures
