@@ -8,7 +8,7 @@ use Rattle.isle_check_environment.specs.signatures.Environment.{EnvironmentNode}
 use Rattle.isle_check_environment.specs.signatures.Signatures.{TermNode}
 use Rattle.isle_check_typing.specs.Faults.{FaultNode, argument_count, priority_in_multi}
 use Rattle.isle_check_typing.specs.PatternTypes.{arguments_by, count_patterns, type_at}
-use Rattle.isle_check_typing.specs.Progress.{ProgressNode, unless}
+use Rattle.isle_check_typing.specs.Progress.{ProgressNode, VariableNode, unless}
 use Rattle.isle_check_typing.specs.Typed.{TypedNode}
 use Rattle.isle_check_typing.specs.Typings.{Typing, Typings, and_then, gives, gives_none, with_typed}
 use Rattle.isle_check_typing.specs.declared.expressions.flags.Flags.{Flags}
@@ -114,6 +114,18 @@ root_by depth env _ r = Some (record { typed = None; faults = [] })
 
 abbrev pub type_rule : (depth : ℕ) → EnvironmentNode → RuleDefinition → Option RuleTyping
 type_rule depth env r = root_by depth env r.pattern r
+
+-- the variables that a rule of a term binds, in order; none if the term is not known
+abbrev pub variables_by : (depth : ℕ) → EnvironmentNode → Option TermNode → (term : List ℕ) → PatternList → RuleDefinition → Option (List VariableNode)
+variables_by depth env None term args r = Some []
+variables_by depth env (Some t) term args r = option_map (λ sides. sides.after.bound) (type_sides depth env t term args r no_progress)
+
+abbrev pub variables_at : (depth : ℕ) → EnvironmentNode → PatternNode → RuleDefinition → Option (List VariableNode)
+variables_at depth env (term_pattern sym args place) r = variables_by depth env (env.terms sym.text) sym.text args r
+variables_at depth env _ r = Some []
+
+abbrev pub rule_variables : (depth : ℕ) → EnvironmentNode → RuleDefinition → Option (List VariableNode)
+rule_variables depth env r = variables_at depth env r.pattern r
 
 -- one more rule
 abbrev pub with_typing : RulesTyping → RuleTyping → RulesTyping

@@ -8,6 +8,7 @@ pub mod laws;
 mod refusal;
 mod rules;
 mod typed;
+mod variables;
 mod warnings;
 
 pub use extractors::multi_extractors;
@@ -15,4 +16,5 @@ pub use faults::rule_faults;
 pub use refusal::RuleRefusal;
 pub use rules::type_rule;
 pub use typed::{RuleTyping, RulesTyping, TypedIfLet, TypedRule};
+pub use variables::rule_variables;
 pub use warnings::{Warning, WarningKind, conditions_without_constructor};

@@ -85,7 +85,7 @@ fn type_root<'e>(
 }
 
 /// Types the arguments, the conditions and the right side of a rule.
-fn type_sides<'e>(
+pub(crate) fn type_sides<'e>(
     alloc: Global,
     depth: usize,
     env: &'e Environment,
