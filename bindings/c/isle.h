@@ -122,7 +122,7 @@ isle_answer isle_c_tidy_refusal(const uint8_t *text, size_t text_len,
                                 uint8_t *reason, size_t reason_len, isle_place *place);
 
 /* Checks a program: writes the encoding of the errors that isle-check reports, or without an error
- * of its warnings. crates/isle_encoding_findings/src/lib.rt describes the bytes.
+ * of its warnings. crates/isle_encoding/src/findings.rt describes the bytes.
  *
  * The texts of its files stand one behind the other, with the length of each in `lengths`. A
  * position in the answer is a byte offset in a text, with the index of the text for its file. A

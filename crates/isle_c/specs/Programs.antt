@@ -11,7 +11,7 @@ use Rattle.isle_base.specs.declared.fault.Fault.{Fault}
 use Rattle.isle_base.specs.declared.fault.Fault.TheVariants as faults
 use Rattle.isle_c.specs.declared.calls.NoAnswer.{NoAnswer}
 use Rattle.isle_c.specs.declared.calls.NoAnswer.TheVariants.{Accepted, BadLengths, Memory, NotUtf8, Refused}
-use Rattle.isle_encoding_findings.specs.Encoded.{IsEncodedLints, encoded_checks}
+use Rattle.isle_encoding.specs.findings.Encoded.{IsEncodedLints, encoded_checks}
 use Rattle.isle_lint_core.specs.Lint.{all_lints, is_default}
 use Rattle.isle_lint_core.specs.declared.lint.Lint.{Lint}
 use Rattle.isle_syntax.specs.Format.{IsRefused}

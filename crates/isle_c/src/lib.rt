@@ -288,8 +288,8 @@ pub extern "C" fn isle_c_tidy_refusal(
 /// errors, or without an error its warnings.
 ///
 /// The texts of its files stand one behind the other, and have these lengths. Each position is a
-/// byte offset in a text, with the index of the text for its file. The crate
-/// `isle_encoding_findings` describes the encoding, which is UTF-8. The status is `REFUSED` if a
+/// byte offset in a text, with the index of the text for its file. The module
+/// `isle_encoding::findings` describes the encoding, which is UTF-8. The status is `REFUSED` if a
 /// text does not parse, which `isle_c_refusal` of that text explains; and `BAD_LENGTHS` if the sum
 /// of the lengths is not the length of the slice.
 #[unsafe(no_mangle)]

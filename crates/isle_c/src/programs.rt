@@ -9,12 +9,12 @@ ghost use Rattle.isle_base.specs.Steps.{IfError};
 ghost use Rattle.isle_c.specs.Programs.{Adds, IsCheck, IsLint, IsProgram, IsProgramFailure};
 ghost use Rattle.isle_c.specs.Programs.{IsReadingFailure, IsTextsFailure, IsTreeOf, Stops};
 ghost use Rattle.isle_c.specs.Programs.{is_chosen, lints_for, parts};
-ghost use Rattle.isle_encoding_findings.specs.Encoded.{IsEncodedLints};
+ghost use Rattle.isle_encoding.specs.findings.Encoded.{IsEncodedLints};
 ghost use Rattle.isle_syntax.specs.Format.{IsRefused};
 
 use crate::calls::NoAnswer;
 use crate::slices::text_of;
-use isle_encoding_findings::{encode_checks, encode_lints};
+use isle_encoding::findings::{encode_checks, encode_lints};
 use isle_lint_core::Lint;
 use isle_parser::dropping::drop_definitions;
 use isle_parser::parser::parse;

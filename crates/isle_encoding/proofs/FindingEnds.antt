@@ -5,7 +5,7 @@ use Rattle.isle_encoding.specs.Numbers.{flag, list, number}
 use Rattle.isle_encoding.specs.Names.{position, text}
 use Rattle.isle_encoding.proofs.Ends.{flag_ends, list_ends, number_ends, parts_2, parts_5}
 use Rattle.isle_encoding.proofs.NameEnds.{position_ends, text_ends}
-use Rattle.isle_encoding_findings.specs.Encoded.{ToldNode, encoded, finding, note, version}
+use Rattle.isle_encoding.specs.findings.Encoded.{ToldNode, encoded, finding, note, version}
 
 note_ends : (x y : NoteNode) (r s : List ℕ) → note x ++ r ≡ note y ++ s → (x ≡ y) × (r ≡ s)
 note_ends x y r s same =

@@ -1,6 +1,7 @@
 pub mod DefinitionEnds
 pub mod Digits
 pub mod Ends
+pub mod FindingEnds
 pub mod NameEnds
 pub mod RuleCounts
 pub mod RuleEnds

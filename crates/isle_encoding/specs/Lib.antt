@@ -4,3 +4,4 @@ pub mod Rules
 pub mod Operators
 pub mod Verification
 pub mod Encoded
+pub mod findings

@@ -3,16 +3,15 @@
 //! It is a version and the list of the findings. A finding is a flag, 1 for an error and 0 for a
 //! warning, then the name of its kind or of its lint, its position, its message, and the list of
 //! its notes. A note is a position and a message. Numbers, flags, lists, texts and positions are
-//! written as by `isle_encoding`, so the result is valid UTF-8.
+//! written as in the encoding of a tree, so the result is valid UTF-8.
 //!
-//! `specs/Encoded.antt` defines the encoding, and the law `laws::encodings_end` says that it loses
-//! nothing.
-#![tactic(auto)]
+//! `specs/findings/Encoded.antt` defines the encoding, and the law `laws::encodings_end` says that
+//! it loses nothing.
 
 ghost use Rattle.std.specs.Prelude.{◌≡◌, IfOk, false, string_bytes};
 ghost use Rattle.isle_ast.specs.MacroArgs.{definitions_have_macro_arg};
 ghost use Rattle.isle_ast.specs.TreeView.{definitions_of};
-ghost use Rattle.isle_encoding_findings.specs.Encoded.{IsEncodedLints, encoded_checks};
+ghost use Rattle.isle_encoding.specs.findings.Encoded.{IsEncodedLints, encoded_checks};
 
 mod checks;
 pub mod laws;
@@ -20,11 +19,11 @@ mod lints;
 mod notes;
 mod told;
 
-use checks::put_findings;
+use crate::findings::checks::put_findings;
+use crate::findings::lints::put_lint_findings;
 use isle_ast::ast::Def;
 use isle_check_core::check;
 use isle_lint_core::{Lint, findings};
-use lints::put_lint_findings;
 use std::alloc::{AllocError, Global};
 
 /// Checks a program as `isle_check_core::check` does, and encodes what is found: its errors, or

@@ -1,4 +1,5 @@
-//! An encoding of ISLE's tree as bytes, for callers in other languages.
+//! An encoding of ISLE's tree as bytes, for callers in other languages; in its module `findings`,
+//! one of what is found in a tree.
 //!
 //! A tree is a version, the encoding of each definition, and a 0. A node is a byte for its kind,
 //! then its parts in the order of its fields. A number is written in base 64, lowest digit first,
@@ -16,6 +17,7 @@ ghost use Rattle.isle_ast.specs.TreeView.{definitions_of};
 ghost use Rattle.isle_encoding.specs.Encoded.{encoded};
 
 mod definitions;
+pub mod findings;
 pub mod laws;
 mod names;
 mod nodes;

@@ -13,7 +13,7 @@ use Rattle.serde_json.specs.Written.{items_outline, members_outline, outline}
 use Rattle.isle_lsp_text.specs.declared.positions.Position.{Position}
 use Rattle.isle_lsp_text.specs.declared.positions.Range.{Range}
 use Rattle.isle_lsp_protocol.specs.Replies.{IsTextOf}
-use Rattle.isle_lsp_protocol.specs.Results.{checked_data, completion_item, document_edits, document_identifier, document_symbol, error_data, location, position_data, range_data, text_edit, version_data, warning_data, workspace_edit, workspace_symbol}
+use Rattle.isle_lsp_protocol.specs.Results.{checked_data, completion_item, document_edits, document_identifier, document_symbol, error_data, inlay_hint, location, position_data, range_data, text_edit, version_data, warning_data, workspace_edit, workspace_symbol}
 use Rattle.isle_lsp_protocol.specs.Written.{Adds, Reads}
 
 mutual
@@ -81,3 +81,6 @@ changes_reads changes h = rw h refl
 
 pub completion_reads : (name : List ℕ) (kind : ℕ) (r : Range) → ReadsNumber kind → Reads (text_edit r name) → Reads (completion_item name kind r)
 completion_reads name kind r k h = rw k (rw h refl)
+
+pub inlay_hint_reads : (position : Position) (label : List ℕ) → Reads (position_data position) → Reads (inlay_hint position label)
+inlay_hint_reads position label h = rw h (rw (number_of-decimal 1 (omega arith)) refl)

@@ -54,7 +54,8 @@ workspace_folders = object (member (codes "changeNotifications") (boolean true) 
 -- what the server can do; positions count units of UTF-16
 abbrev pub capabilities : Data
 capabilities =
-    object (member (codes "codeActionProvider") code_actions
+    object (member (codes "callHierarchyProvider") (boolean true)
+    (member (codes "codeActionProvider") code_actions
     (member (codes "completionProvider") completion
     (member (codes "definitionProvider") (boolean true)
     (member (codes "documentFormattingProvider") (boolean true)
@@ -65,6 +66,7 @@ capabilities =
     (member (codes "foldingRangeProvider") (boolean true)
     (member (codes "hoverProvider") (boolean true)
     (member (codes "implementationProvider") (boolean true)
+    (member (codes "inlayHintProvider") (boolean true)
     (member (codes "positionEncoding") (string (codes "utf-16"))
     (member (codes "referencesProvider") (boolean true)
     (member (codes "renameProvider") rename
@@ -73,7 +75,7 @@ capabilities =
     (member (codes "signatureHelpProvider") signature_help
     (member (codes "textDocumentSync") text_document_sync
     (member (codes "workspace") (object (member (codes "workspaceFolders") workspace_folders no_members))
-    (member (codes "workspaceSymbolProvider") (boolean true) no_members))))))))))))))))))))
+    (member (codes "workspaceSymbolProvider") (boolean true) no_members))))))))))))))))))))))
 
 -- its name, and the version of the language
 abbrev pub server_info : Data

@@ -5,7 +5,7 @@ use Rattle.serde_json.specs.Find.{get, as_str, as_number, as_object}
 use Rattle.serde_json.specs.Read.{read}
 use Rattle.isle_lsp_frames.specs.Mending.{mended}
 use Rattle.isle_lsp_protocol.specs.declared.machine.Request as requests
-use Rattle.isle_lsp_protocol.specs.declared.machine.Request.TheVariants.{Initialize, Shutdown, Document, DocumentSymbol, WorkspaceSymbol, Definition, Implementation, References, DocumentHighlight, Hover, SignatureHelp, Completion, ResolveCompletion, PrepareRename, Rename, Unknown}
+use Rattle.isle_lsp_protocol.specs.declared.machine.Request.TheVariants.{Initialize, Shutdown, Document, DocumentSymbol, WorkspaceSymbol, Definition, Implementation, References, DocumentHighlight, Hover, SignatureHelp, Completion, ResolveCompletion, PrepareRename, Rename, InlayHint, PrepareCallHierarchy, IncomingCalls, OutgoingCalls, Unknown}
 use Rattle.isle_lsp_protocol.specs.declared.machine.DocumentRequest.TheVariants.{Formatting, RangeFormatting, OnTypeFormatting, FoldingRange, SelectionRange, SemanticTokens, SemanticTokensRange, CodeAction}
 use Rattle.isle_lsp_protocol.specs.declared.machine.Notification as notifications
 use Rattle.isle_lsp_protocol.specs.declared.machine.Notification.TheVariants.{Initialized, Exit, DidOpen, DidChange, DidClose, DidChangeWorkspaceFolders, DidChangeWatchedFiles, Other}
@@ -61,7 +61,11 @@ request_of name =
     else (if bytes_eq name (codes "completionItem/resolve") then ResolveCompletion
     else (if bytes_eq name (codes "textDocument/prepareRename") then PrepareRename
     else (if bytes_eq name (codes "textDocument/rename") then Rename
-    else document_request_of name)))))))))))))
+    else (if bytes_eq name (codes "textDocument/inlayHint") then InlayHint
+    else (if bytes_eq name (codes "textDocument/prepareCallHierarchy") then PrepareCallHierarchy
+    else (if bytes_eq name (codes "callHierarchy/incomingCalls") then IncomingCalls
+    else (if bytes_eq name (codes "callHierarchy/outgoingCalls") then OutgoingCalls
+    else document_request_of name)))))))))))))))))
 
 abbrev pub named_notification : Option (List ℕ) → messages.Message
 named_notification None = Invalid

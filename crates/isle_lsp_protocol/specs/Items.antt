@@ -2,7 +2,7 @@
 use Rattle.std.specs.Prelude.{ℕ, List, [], ◌∷◌, map, string_bytes, Bool, false, true}
 use Rattle.serde_json.specs.Data.{Data, Members, array, no_members, put}
 use Rattle.serde_json.specs.View.{items_of}
-use Rattle.isle_lsp_protocol.specs.Results.{completion_item, document_edits, document_symbol, location, plain_edit, ranged, text_edit, workspace_edit, workspace_symbol}
+use Rattle.isle_lsp_protocol.specs.Results.{completion_item, document_edits, document_symbol, inlay_hint, location, plain_edit, ranged, text_edit, workspace_edit, workspace_symbol}
 use Rattle.isle_lsp_protocol.specs.declared.items.Item.{Item}
 use Rattle.isle_lsp_protocol.specs.declared.items.Item.TheVariants as kinds
 use Rattle.isle_lsp_protocol.specs.declared.items.Listing.{Listing}
@@ -19,6 +19,7 @@ item_data (kinds.Highlight range) = ranged range
 item_data (kinds.DocumentSymbol name kind range selection) = document_symbol (string_bytes name) kind range selection
 item_data (kinds.WorkspaceSymbol name kind uri range) = workspace_symbol (string_bytes name) kind uri.now range
 item_data (kinds.Completion name kind range) = completion_item (string_bytes name) kind range
+item_data (kinds.InlayHint position label) = inlay_hint position (string_bytes label)
 item_data (kinds.Edits uri version ranges text) = document_edits uri.now version (edits_data (string_bytes text) ranges.items)
 
 abbrev pub items_data : List Item → Data
@@ -37,6 +38,7 @@ with_change (kinds.Highlight range) changes = changes
 with_change (kinds.DocumentSymbol name kind range selection) changes = changes
 with_change (kinds.WorkspaceSymbol name kind uri range) changes = changes
 with_change (kinds.Completion name kind range) changes = changes
+with_change (kinds.InlayHint position label) changes = changes
 
 abbrev pub with_changes : List Item → Members → Members
 with_changes [] changes = changes

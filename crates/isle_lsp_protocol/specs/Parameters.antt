@@ -7,9 +7,18 @@ use Rattle.isle_lsp_text.specs.Changes.{apply_change}
 use Rattle.isle_lsp_text.specs.declared.positions.Position.{Position}
 use Rattle.isle_lsp_text.specs.declared.positions.Range.{Range}
 
--- the URI of the document
+-- the first of two, if there is one, or else the second
+abbrev pub or_else : Option Data → Option Data → Option Data
+or_else None second = second
+or_else (Some d) second = Some d
+
+-- what is at the first of these paths, or else at the second
+abbrev pub at_either : (first second : List ℕ) → Data → Option Data
+at_either first second d = or_else (pointer first d) (pointer second d)
+
+-- the URI of the document, or that of the item of the call hierarchy
 abbrev pub uri_of : Data → Option (List ℕ)
-uri_of d = option_and_then as_str (pointer (codes "/params/textDocument/uri") d)
+uri_of d = option_and_then as_str (at_either (codes "/params/textDocument/uri") (codes "/params/item/uri") d)
 
 -- the text of the document that is opened
 abbrev pub text_of : Data → Option (List ℕ)
@@ -65,9 +74,9 @@ range_with (Some start) (Some end) = Some record { start = start; end = end }
 abbrev pub range_in : Data → Option Range
 range_in d = range_with (position_at (codes "start") d) (position_at (codes "end") d)
 
--- the position of the request
+-- the position of the request, or where the name of the item of the call hierarchy begins
 abbrev pub position_of : Data → Option Position
-position_of d = option_and_then position_in (pointer (codes "/params/position") d)
+position_of d = option_and_then position_in (at_either (codes "/params/position") (codes "/params/item/selectionRange/start") d)
 
 -- the range of the request
 abbrev pub range_of : Data → Option Range

@@ -1,6 +1,7 @@
 -- The results of requests and their parts, as JSON.
-use Rattle.std.specs.Prelude.{ℕ, ℤ, List, Bool, true, false, codes, Option, None, Some}
-use Rattle.serde_json.specs.Data.{Data, null, number, unsigned, string, object, Members, member, no_members, put}
+use Rattle.std.specs.Prelude.{ℕ, ℤ, List, Bool, true, false, codes, Option, None, Some, map}
+use Rattle.serde_json.specs.View.{items_of}
+use Rattle.serde_json.specs.Data.{Data, null, array, number, unsigned, string, object, Members, member, no_members, put}
 use Rattle.serde_json.specs.Find.{of_integer}
 use Rattle.isle_lsp_text.specs.declared.positions.Position.{Position}
 use Rattle.isle_lsp_text.specs.declared.positions.Range.{Range}
@@ -66,6 +67,28 @@ with_documentation d shown = d
 abbrev pub completion_item : (name : List ℕ) → (kind : ℕ) → Range → Data
 completion_item name kind range =
     object (member (codes "kind") (number (unsigned kind)) (member (codes "label") (string name) (member (codes "textEdit") (text_edit range name) no_members)))
+
+-- a text that is shown at a position; the kind 1 is that of types
+abbrev pub inlay_hint : Position → (label : List ℕ) → Data
+inlay_hint position label =
+    object (member (codes "kind") (number (unsigned 1)) (member (codes "label") (string label) (member (codes "position") (position_data position) no_members)))
+
+-- a definition whose calls may be asked about, with the kind 12 of functions: its whole range, and that of its name
+abbrev pub call_item : (name uri : List ℕ) → (range selection : Range) → Data
+call_item name uri range selection =
+    object (member (codes "kind") (number (unsigned 12)) (member (codes "name") (string name) (member (codes "range") (range_data range)
+    (member (codes "selectionRange") (range_data selection) (member (codes "uri") (string uri) no_members)))))
+
+abbrev pub ranges_data : List Range → Data
+ranges_data ranges = array (items_of (map range_data ranges))
+
+-- the calls in these ranges, by the item that makes them
+abbrev pub incoming_call : Data → List Range → Data
+incoming_call from ranges = object (member (codes "from") from (member (codes "fromRanges") (ranges_data ranges) no_members))
+
+-- the calls in these ranges, of this item
+abbrev pub outgoing_call : Data → List Range → Data
+outgoing_call to ranges = object (member (codes "fromRanges") (ranges_data ranges) (member (codes "to") to no_members))
 
 -- null where the version is not known
 abbrev pub version_data : Option ℤ → Data

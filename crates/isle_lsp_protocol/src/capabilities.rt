@@ -12,6 +12,7 @@ use std::alloc::Global;
 /// The result of `initialize` as JSON.
 const INITIALIZE_RESULT: &str = "{\
     \"capabilities\":{\
+    \"callHierarchyProvider\":true,\
     \"codeActionProvider\":{\"codeActionKinds\":[\"quickfix\"]},\
     \"completionProvider\":{\"resolveProvider\":true,\"triggerCharacters\":[\".\",\"$\"]},\
     \"definitionProvider\":true,\
@@ -24,6 +25,7 @@ const INITIALIZE_RESULT: &str = "{\
     \"foldingRangeProvider\":true,\
     \"hoverProvider\":true,\
     \"implementationProvider\":true,\
+    \"inlayHintProvider\":true,\
     \"positionEncoding\":\"utf-16\",\
     \"referencesProvider\":true,\
     \"renameProvider\":{\"prepareProvider\":true},\

@@ -116,6 +116,10 @@ fn request_of(name: &str) -> Request
         "completionItem/resolve" => Request::ResolveCompletion,
         "textDocument/prepareRename" => Request::PrepareRename,
         "textDocument/rename" => Request::Rename,
+        "textDocument/inlayHint" => Request::InlayHint,
+        "textDocument/prepareCallHierarchy" => Request::PrepareCallHierarchy,
+        "callHierarchy/incomingCalls" => Request::IncomingCalls,
+        "callHierarchy/outgoingCalls" => Request::OutgoingCalls,
         _ => document_request_of(name),
     }
 }

@@ -12,8 +12,8 @@ ghost use Rattle.isle_lsp_protocol.specs.Results as wanted;
 ghost use Rattle.isle_lsp_protocol.specs.Written.{Reads};
 
 use crate::results::text_edit;
-use crate::writing::{put_number, put_range, put_text};
-use isle_lsp_text::positions::Range;
+use crate::writing::{put_number, put_position, put_range, put_text};
+use isle_lsp_text::positions::{Position, Range};
 use json::Writer;
 use serde_json::{Map, Value, json, put};
 use std::alloc::{AllocError, Global};
@@ -74,6 +74,13 @@ pub enum Item<'a> {
         kind: usize,
         /// The part that it replaces.
         range: Range,
+    },
+    /// What is shown in the document of the request.
+    InlayHint {
+        /// Where.
+        position: Position,
+        /// The text that is shown.
+        label: String,
     },
     /// The changes to a document: the same text replaces each part.
     Edits {
@@ -185,6 +192,7 @@ fn put_item(out: &mut Writer, item: &Item) -> Result<(), AllocError>
         Item::Completion { name, kind, range } => {
             put_completion(out, name.as_str(), *kind, *range)
         }
+        Item::InlayHint { position, label } => put_inlay_hint(out, *position, label.as_str()),
         Item::Edits {
             uri,
             version,
@@ -273,6 +281,21 @@ fn put_completion(out: &mut Writer, name: &str, kind: usize, range: Range) -> Re
     put_text(out, "label", name)?;
     out.key("textEdit")?;
     put_edit(out, name, range)?;
+    out.end_object()
+}
+
+/// Writes a hint. It is one of types, whose kind is 1.
+#[tactic(auto, using(crate::proofs::Tokens::appended))]
+fn put_inlay_hint(out: &mut Writer, position: Position, label: &str) -> Result<(), AllocError>
+    ensures before { out.new.before ≡ out.old.before }
+    ensures tokens { OnOk result (out.new.tokens ≡ out.old.tokens
+        ++ json_tokens (outline (wanted.inlay_hint position label.now))) }
+    ensures reads { OnOk result (Reads (wanted.inlay_hint position label.now)) }
+{
+    out.begin_object()?;
+    put_number(out, "kind", 1)?;
+    put_text(out, "label", label)?;
+    put_position(out, "position", position)?;
     out.end_object()
 }
 

@@ -53,6 +53,14 @@ pub enum Request {
     PrepareRename,
     /// The edits that rename a name.
     Rename,
+    /// The types of variables, shown beside them.
+    InlayHint,
+    /// The term whose calls are asked about.
+    PrepareCallHierarchy,
+    /// The calls of a term.
+    IncomingCalls,
+    /// The calls that a term makes.
+    OutgoingCalls,
     /// Any other method.
     Unknown,
 }

@@ -12,13 +12,25 @@ use isle_lsp_text::positions::{Position, Range};
 use serde_json::Value;
 use std::alloc::{AllocError, Global};
 
-/// The URI of the document that a message names.
+/// The URI of the document that a message names, or that of the item of the call hierarchy in it.
 pub fn uri_of(message: &Value) -> Option<&str>
     ensures { option_map (λ uri. uri.now) result ≡ wanted.uri_of (view message.now) }
 {
-    message
-        .pointer("/params/textDocument/uri")
-        .and_then(Value::as_str)
+    match at_either(message, "/params/textDocument/uri", "/params/item/uri") {
+        Some(uri) => uri.as_str(),
+        None => None,
+    }
+}
+
+/// What a message has at the first of these paths, or else at the second.
+fn at_either<'a>(message: &'a Value, first: &str, second: &str) -> Option<&'a Value>
+    ensures { option_map (λ value. view value.now) result
+        ≡ wanted.at_either first.now second.now (view message.now) }
+{
+    match message.pointer(first) {
+        Some(value) => Some(value),
+        None => message.pointer(second),
+    }
 }
 
 /// The text of the opened document.
@@ -30,11 +42,15 @@ pub fn text_of(message: &Value) -> Option<&str>
         .and_then(Value::as_str)
 }
 
-/// The position in a message.
+/// The position in a message, or where the name begins of the item of the call hierarchy in it.
 pub fn position_of(message: &Value) -> Option<Position>
     ensures { result ≡ wanted.position_of (view message.now) }
 {
-    match message.pointer("/params/position") {
+    match at_either(
+        message,
+        "/params/position",
+        "/params/item/selectionRange/start",
+    ) {
         Some(position) => position_in(position),
         None => None,
     }

@@ -61,3 +61,60 @@ pub fn hover_value(alloc: Global, shown: &str, range: Range) -> Result<Value, Al
     let contents = markdown(alloc, shown)?;
     json!(in alloc; {"contents": contents, "range": range})
 }
+
+/// A definition whose calls may be asked about.
+#[derive(Clone, Copy)]
+pub struct CallItem<'a> {
+    /// The defined name.
+    pub name: &'a str,
+    /// The document's URI.
+    pub uri: &'a str,
+    /// The whole definition.
+    pub range: Range,
+    /// The name.
+    pub selection: Range,
+}
+
+/// An item of the call hierarchy. Its kind is 12, that of functions.
+pub fn call_item(alloc: Global, item: CallItem) -> Result<Value, AllocError>
+    ensures { IfOk result (λ value. view value ≡ wanted.call_item item.name.now item.uri.now
+        item.range item.selection) }
+{
+    let range = range_value(alloc, item.range)?;
+    let selection = range_value(alloc, item.selection)?;
+    json!(in alloc; {
+        "kind": 12,
+        "name": item.name,
+        "range": range,
+        "selectionRange": selection,
+        "uri": item.uri
+    })
+}
+
+/// The calls in these ranges, by the item that makes them.
+pub fn incoming_call(alloc: Global, from: Value, ranges: &[Range]) -> Result<Value, AllocError>
+    ensures { IfOk result
+        (λ value. view value ≡ wanted.incoming_call (view from.entry) ranges.now) }
+{
+    let ranges = ranges_value(alloc, ranges)?;
+    json!(in alloc; {"from": from, "fromRanges": ranges})
+}
+
+/// The calls in these ranges, of this item.
+pub fn outgoing_call(alloc: Global, to: Value, ranges: &[Range]) -> Result<Value, AllocError>
+    ensures { IfOk result
+        (λ value. view value ≡ wanted.outgoing_call (view to.entry) ranges.now) }
+{
+    let ranges = ranges_value(alloc, ranges)?;
+    json!(in alloc; {"fromRanges": ranges, "to": to})
+}
+
+fn ranges_value(alloc: Global, ranges: &[Range]) -> Result<Value, AllocError>
+    ensures { IfOk result (λ value. view value ≡ wanted.ranges_data ranges.now) }
+{
+    let mut values = Vec::new(alloc);
+    for range in ranges {
+        values.push(range_value(alloc, *range)?)?;
+    }
+    Ok(Value::Array(values))
+}

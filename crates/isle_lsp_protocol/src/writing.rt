@@ -97,7 +97,7 @@ pub fn put_range(out: &mut Writer, name: &str, range: Range) -> Result<(), Alloc
 
 /// Writes a member whose value is a position.
 #[tactic(auto, using(crate::proofs::Tokens::appended))]
-fn put_position(out: &mut Writer, name: &str, position: Position) -> Result<(), AllocError>
+pub fn put_position(out: &mut Writer, name: &str, position: Position) -> Result<(), AllocError>
     ensures before { out.new.before ≡ out.old.before }
     ensures tokens { OnOk result (out.new.tokens ≡ out.old.tokens
         ++ key name.now ∷ json_tokens (outline (position_data position))) }

@@ -1,4 +1,4 @@
-//! Decodes findings. `crates/isle_encoding_findings/specs/Encoded.antt` defines the bytes.
+//! Decodes findings. `crates/isle_encoding/specs/findings/Encoded.antt` defines the bytes.
 
 use super::{Broken, Read, Reader};
 use crate::lexer::Pos;

@@ -13,7 +13,7 @@ use Rattle.isle_lint_core.specs.declared.finding.Finding.{Finding}
 use Rattle.isle_lint_core.specs.declared.lint.Lint.{Lint}
 use Rattle.isle_encoding.specs.Names.{position, text}
 use Rattle.isle_encoding.specs.Numbers.{flag, list, number}
-use Rattle.isle_encoding_findings.specs.declared.told.Told.{Told}
+use Rattle.isle_encoding.specs.declared.findings.told.Told.{Told}
 
 -- whether it is an error, the name of its kind or of its lint, its place, its message, and what is told of other places
 pub record ToldNode : Type 0 where

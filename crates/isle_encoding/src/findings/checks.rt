@@ -2,10 +2,10 @@
 
 ghost use Rattle.std.specs.Prelude.{◌≡◌, ◌++◌, OnOk, map, string_bytes};
 ghost use Rattle.isle_check_core.specs.Views.{finding_of, findings_of};
-ghost use Rattle.isle_encoding_findings.specs.Encoded.{encoded, finding, told};
+ghost use Rattle.isle_encoding.specs.findings.Encoded.{encoded, finding, told};
 
-use crate::notes::put_start;
-use crate::told::{Told, put_told};
+use crate::findings::notes::put_start;
+use crate::findings::told::{Told, put_told};
 use isle_check_core::Finding;
 use std::alloc::{AllocError, Global};
 

@@ -1,7 +1,7 @@
 //! Laws of the encoding. They have no code to run.
 
 ghost use Rattle.std.specs.Prelude.{◌≡◌, ◌++◌, List, ℕ};
-ghost use Rattle.isle_encoding_findings.specs.Encoded.{ToldNode, encoded};
+ghost use Rattle.isle_encoding.specs.findings.Encoded.{ToldNode, encoded};
 
 /// An encoding shows where it ends: if the encodings of two lists of findings are prefixes of the
 /// same bytes, the lists are equal, and so are the bytes after them. So nothing is lost.

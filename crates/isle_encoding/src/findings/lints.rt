@@ -2,10 +2,10 @@
 
 ghost use Rattle.std.specs.Prelude.{◌≡◌, ◌++◌, OnOk, map, string_bytes};
 ghost use Rattle.isle_lint_core.specs.Finding.{finding_of};
-ghost use Rattle.isle_encoding_findings.specs.Encoded.{encoded, finding, told_lint};
+ghost use Rattle.isle_encoding.specs.findings.Encoded.{encoded, finding, told_lint};
 
-use crate::notes::put_start;
-use crate::told::{Told, put_told};
+use crate::findings::notes::put_start;
+use crate::findings::told::{Told, put_told};
 use isle_lint_core::Finding;
 use std::alloc::{AllocError, Global};
 

@@ -3,11 +3,12 @@
 ghost use Rattle.std.specs.Prelude.{◌≡◌, ◌++◌, OnOk, string_bytes};
 ghost use Rattle.isle_check_messages.specs.Notes.{note_of, notes_of};
 ghost use Rattle.isle_encoding.specs.Numbers.{list, number};
-ghost use Rattle.isle_encoding_findings.specs.Encoded.{note};
-ghost use Rattle.isle_encoding_findings.specs.Encoded as encoded;
+ghost use Rattle.isle_encoding.specs.findings.Encoded.{note};
+ghost use Rattle.isle_encoding.specs.findings.Encoded as encoded;
 
+use crate::names::{put_position, put_text};
+use crate::numbers::put_number;
 use isle_check_core::Note;
-use isle_encoding::{put_number, put_position, put_text};
 use std::alloc::AllocError;
 
 /// The version of the encoding.

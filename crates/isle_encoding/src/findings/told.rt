@@ -1,12 +1,13 @@
 //! Encodes one finding.
 
 ghost use Rattle.std.specs.Prelude.{◌≡◌, ◌++◌, OnOk, string_bytes};
-ghost use Rattle.isle_encoding_findings.specs.Encoded.{finding, told_of};
+ghost use Rattle.isle_encoding.specs.findings.Encoded.{finding, told_of};
 
-use crate::notes::put_notes;
+use crate::findings::notes::put_notes;
+use crate::names::{put_position, put_text};
+use crate::numbers::put_flag;
 use isle_base::lexer::Pos;
 use isle_check_core::Note;
-use isle_encoding::{put_flag, put_position, put_text};
 use std::alloc::AllocError;
 
 /// What is told of a finding.

@@ -1,6 +1,6 @@
 use Rattle.std.proofs.Common.{ap, ◌∙◌}
 use Rattle.isle_ast.specs.TreeView.{definitions_of}
-use Rattle.isle_encoding_findings.specs.Encoded.{encoded_checks}
+use Rattle.isle_encoding.specs.findings.Encoded.{encoded_checks}
 use Rattle.isle_c.proofs.programs.check_of.Goals as goal
 
 pub returns-clause-ok : goal.returns-clause-ok

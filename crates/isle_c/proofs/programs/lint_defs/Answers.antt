@@ -1,6 +1,6 @@
 use Rattle.std.proofs.Common.{IfOk, string_bytes, subst, ◌∙◌}
 use Rattle.isle_ast.specs.TreeView.{definitions_of}
-use Rattle.isle_encoding_findings.specs.Encoded.{IsEncodedLints}
+use Rattle.isle_encoding.specs.findings.Encoded.{IsEncodedLints}
 use Rattle.isle_c.proofs.programs.lint_defs.Goals as goal
 
 pub returns : goal.returns

@@ -1,7 +1,7 @@
 use Rattle.std.proofs.Common.{string_bytes, subst}
 use Rattle.isle_ast.specs.TreeView.{definitions_of}
 use Rattle.isle_c.specs.Programs.{lints_for}
-use Rattle.isle_encoding_findings.specs.Encoded.{IsEncodedLints}
+use Rattle.isle_encoding.specs.findings.Encoded.{IsEncodedLints}
 use Rattle.isle_c.proofs.programs.lint_of.Goals as goal
 
 pub returns-clause-ok : goal.returns-clause-ok

@@ -36,6 +36,12 @@ returns-in-Completion-clause-tokens c = rw c.in-Completion.is (rw c.as_str-in-Co
 pub returns-in-Completion-clause-reads : goal.returns-in-Completion-clause-reads
 returns-in-Completion-clause-reads c = rw c.in-Completion.is (rw c.as_str-in-Completion.ensures.value at c.put_completion.ensures.reads)
 
+pub returns-in-InlayHint-clause-tokens : goal.returns-in-InlayHint-clause-tokens
+returns-in-InlayHint-clause-tokens c = rw c.in-InlayHint.is (rw c.as_str-in-InlayHint.ensures.value at c.put_inlay_hint.ensures.tokens)
+
+pub returns-in-InlayHint-clause-reads : goal.returns-in-InlayHint-clause-reads
+returns-in-InlayHint-clause-reads c = rw c.in-InlayHint.is (rw c.as_str-in-InlayHint.ensures.value at c.put_inlay_hint.ensures.reads)
+
 pub returns-in-Edits-clause-tokens : goal.returns-in-Edits-clause-tokens
 returns-in-Edits-clause-tokens c =
     let Adds : List ℕ → Type 0 = λ text. OnOk c.put_document_edits.result
