@@ -159,12 +159,11 @@ fn lines_of(
         ≡ lines_of (map given_of arguments.now) (map source_of sources.now)
         (definitions_of defs.now)) }
 {
-    let found = check(alloc, defs)?;
-    if found.is_empty() {
+    let told = told_in(alloc, sources, arguments, defs)?;
+    if told.is_empty() {
         return Ok(Vec::new(alloc));
     }
     let maps = line_maps(alloc, sources)?;
-    let told = told_all(alloc, sources, &maps, arguments, &found)?;
     finding_lines(alloc, format_of(arguments), sources, &maps, &told)
 }
 
