@@ -70,7 +70,7 @@ finding_message programs f = record { severity = Warning; kind = name f.lint; te
 abbrev pub finding_line : Format → (programs : List ℕ) → Source → Found → List ℕ
 finding_line format programs source f = told_line format source f.pos.offset (finding_message programs f)
 
--- the line of a finding, with the names of the programs that have it, where another one has its file
+-- the line of a finding, with the names of the programs that have it, if another one has its file, but not the finding
 abbrev pub tagged_line : Format → List Linted → Source → Found → List ℕ
 tagged_line format linted source f = finding_line format (programs_of f linted) source f
 
