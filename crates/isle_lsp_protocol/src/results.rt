@@ -77,8 +77,8 @@ pub struct CallItem<'a> {
 
 /// An item of the call hierarchy. Its kind is 12, that of functions.
 pub fn call_item(alloc: Global, item: CallItem) -> Result<Value, AllocError>
-    ensures { IfOk result (λ value. view value ≡ wanted.call_item item.name.now item.uri.now
-        item.range item.selection) }
+    ensures { IfOk result (λ value. view value ≡ wanted.call_item item.entry.name.now
+        item.entry.uri.now item.entry.range item.entry.selection) }
 {
     let range = range_value(alloc, item.range)?;
     let selection = range_value(alloc, item.selection)?;
@@ -94,7 +94,7 @@ pub fn call_item(alloc: Global, item: CallItem) -> Result<Value, AllocError>
 /// The calls in these ranges, by the item that makes them.
 pub fn incoming_call(alloc: Global, from: Value, ranges: &[Range]) -> Result<Value, AllocError>
     ensures { IfOk result
-        (λ value. view value ≡ wanted.incoming_call (view from.entry) ranges.now) }
+        (λ value. view value ≡ wanted.incoming_call (view from) ranges.now) }
 {
     let ranges = ranges_value(alloc, ranges)?;
     json!(in alloc; {"from": from, "fromRanges": ranges})
@@ -103,7 +103,7 @@ pub fn incoming_call(alloc: Global, from: Value, ranges: &[Range]) -> Result<Val
 /// The calls in these ranges, of this item.
 pub fn outgoing_call(alloc: Global, to: Value, ranges: &[Range]) -> Result<Value, AllocError>
     ensures { IfOk result
-        (λ value. view value ≡ wanted.outgoing_call (view to.entry) ranges.now) }
+        (λ value. view value ≡ wanted.outgoing_call (view to) ranges.now) }
 {
     let ranges = ranges_value(alloc, ranges)?;
     json!(in alloc; {"fromRanges": ranges, "to": to})
