@@ -5,3 +5,4 @@ pub mod Parts
 pub mod Places
 pub mod Units
 pub mod Walks
+pub mod Words

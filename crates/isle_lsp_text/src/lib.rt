@@ -5,6 +5,7 @@
 //! with LF, with CR LF, or with a CR that no LF follows.
 #![tactic(auto)]
 
+pub mod calls;
 pub mod changes;
 pub mod comments;
 pub mod definitions;
