@@ -29,8 +29,8 @@ use Rattle.isle_lsp_features.specs.Places.{File, Place, file_in, place_in}
 use Rattle.isle_lsp_features.specs.Programs.{Question, Text}
 use Rattle.isle_lsp_features.specs.Renamed as renamed
 use Rattle.isle_lsp_features.specs.Signatures.{IsFirstSignature, IsSignature, IsSignatureIn, IsSignatureOf, called}
-use Rattle.isle_lsp_signatures.proofs.Depths.{signature_depth}
-use Rattle.isle_lsp_signatures.specs.Calls.{CallNode}
+use Rattle.isle_lsp_context.proofs.Depths.{signature_depth}
+use Rattle.isle_lsp_context.specs.Calls.{CallNode}
 use Rattle.isle_lsp_features.specs.Shown.{IsHover, IsResolved, hover_data, resolved_data}
 
 array_depth : (n : ℕ) (ds : List Data) → AreShallow n ds → depth (array (items_of ds)) ≤ n + 1

@@ -14,11 +14,11 @@ use Rattle.isle_resolve.specs.Scopes.{SeenNode}
 use Rattle.isle_index.specs.declared.symbols.SymbolKind.{SymbolKind}
 use Rattle.isle_index.specs.declared.symbols.SymbolKind.TheVariants as symbol_kinds
 use Rattle.isle_resolve.specs.declared.event.Kind.TheVariants as kinds
-use Rattle.isle_lsp_completions.specs.Offers.{keywords_of, names_of}
-use Rattle.isle_lsp_completions.specs.Places.{IsSlotAt}
-use Rattle.isle_lsp_completions.specs.declared.offers.Names.{Names}
-use Rattle.isle_lsp_completions.specs.declared.offers.Names.TheVariants as offered
-use Rattle.isle_lsp_completions.specs.declared.slot.Slot.{Slot}
+use Rattle.isle_lsp_context.specs.Offers.{keywords_of, names_of}
+use Rattle.isle_lsp_context.specs.Places.{IsSlotAt}
+use Rattle.isle_lsp_context.specs.declared.offers.Names.{Names}
+use Rattle.isle_lsp_context.specs.declared.offers.Names.TheVariants as offered
+use Rattle.isle_lsp_context.specs.declared.slot.Slot.{Slot}
 use Rattle.isle_lsp_features.specs.declared.completion.Word.{Word}
 use Rattle.isle_lsp_protocol.specs.Parameters.{kind_of, label_of}
 use Rattle.isle_lsp_protocol.specs.Results.{completion_item}

@@ -5,8 +5,8 @@ use Rattle.isle_index.specs.Occurrences.{definitions}
 use Rattle.isle_index.specs.declared.occurrences.Occurrence.{Occurrence}
 use Rattle.isle_lsp_features.specs.Located.{InOrder}
 use Rattle.isle_lsp_features.specs.Programs.{Text}
-use Rattle.isle_lsp_signatures.specs.Calls.{CallNode, IsCallAround}
-use Rattle.isle_lsp_signatures.specs.Signatures.{IsDeclarationHelp}
+use Rattle.isle_lsp_context.specs.Calls.{CallNode, IsCallAround}
+use Rattle.isle_lsp_context.specs.Signatures.{IsDeclarationHelp}
 use Rattle.isle_lsp_text.specs.Lists.{AreLists}
 use Rattle.isle_lsp_text.specs.Wholes.{whole_of}
 use Rattle.isle_lsp_text.specs.declared.lists.ListSpan.{ListSpan}

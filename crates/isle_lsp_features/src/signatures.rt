@@ -6,15 +6,15 @@ ghost use Rattle.isle_index.specs.Held.{all_in};
 ghost use Rattle.isle_lsp_features.specs.Programs.{text_of};
 ghost use Rattle.isle_lsp_features.specs.Signatures.{IsDeclared, IsFirstSignature, IsSignature};
 ghost use Rattle.isle_lsp_features.specs.Signatures.{IsSignatureOf};
-ghost use Rattle.isle_lsp_signatures.specs.Calls.{call_of};
+ghost use Rattle.isle_lsp_context.specs.Calls.{call_of};
 ghost use Rattle.isle_resolve.specs.Names.{named_of};
 
 use crate::Text;
 use crate::hover::source_at;
 use crate::places::Place;
 use isle_index::{Index, Kind, Name, Occurrence};
-use isle_lsp_signatures::calls::{Call, call_around};
-use isle_lsp_signatures::signatures::declaration_help;
+use isle_lsp_context::calls::{Call, call_around};
+use isle_lsp_context::signatures::declaration_help;
 use isle_lsp_text::lists::lists;
 use isle_lsp_text::wholes::whole_of;
 use serde_json::Value;

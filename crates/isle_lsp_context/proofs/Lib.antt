@@ -1,0 +1,4 @@
+pub mod Depths
+mod Firsts
+mod OpenLists
+mod Texts

@@ -1,3 +1,0 @@
-pub mod Depths
-mod OpenLists
-mod Texts
