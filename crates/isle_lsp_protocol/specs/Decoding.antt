@@ -45,6 +45,15 @@ document_request_of name =
     else (if bytes_eq name (codes "textDocument/codeAction") then Document CodeAction
     else Unknown)))))))
 
+-- a request about calls or the types of variables
+abbrev pub call_request_of : List ℕ → requests.Request
+call_request_of name =
+    if bytes_eq name (codes "textDocument/inlayHint") then InlayHint
+    else (if bytes_eq name (codes "textDocument/prepareCallHierarchy") then PrepareCallHierarchy
+    else (if bytes_eq name (codes "callHierarchy/incomingCalls") then IncomingCalls
+    else (if bytes_eq name (codes "callHierarchy/outgoingCalls") then OutgoingCalls
+    else document_request_of name)))
+
 abbrev pub request_of : List ℕ → requests.Request
 request_of name =
     if bytes_eq name (codes "initialize") then Initialize
@@ -61,11 +70,7 @@ request_of name =
     else (if bytes_eq name (codes "completionItem/resolve") then ResolveCompletion
     else (if bytes_eq name (codes "textDocument/prepareRename") then PrepareRename
     else (if bytes_eq name (codes "textDocument/rename") then Rename
-    else (if bytes_eq name (codes "textDocument/inlayHint") then InlayHint
-    else (if bytes_eq name (codes "textDocument/prepareCallHierarchy") then PrepareCallHierarchy
-    else (if bytes_eq name (codes "callHierarchy/incomingCalls") then IncomingCalls
-    else (if bytes_eq name (codes "callHierarchy/outgoingCalls") then OutgoingCalls
-    else document_request_of name)))))))))))))))))
+    else call_request_of name)))))))))))))
 
 abbrev pub named_notification : Option (List ℕ) → messages.Message
 named_notification None = Invalid

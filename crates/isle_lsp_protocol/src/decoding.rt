@@ -4,8 +4,9 @@ ghost use Rattle.std.specs.Prelude.{◌≡◌, IfErr, IfOk, option_map};
 ghost use Rattle.serde_json.specs.View.{view};
 ghost use Rattle.isle_cli.specs.declared.failure.Failure.TheVariants.{Memory};
 ghost use Rattle.isle_lsp_protocol.specs.Decoding.{Decodes, is_id, message_in, message_of};
-ghost use Rattle.isle_lsp_protocol.specs.Decoding.{document_request_of, notification_in};
-ghost use Rattle.isle_lsp_protocol.specs.Decoding.{notification_of, request_in, request_of};
+ghost use Rattle.isle_lsp_protocol.specs.Decoding.{call_request_of, document_request_of};
+ghost use Rattle.isle_lsp_protocol.specs.Decoding.{notification_in, notification_of, request_in};
+ghost use Rattle.isle_lsp_protocol.specs.Decoding.{request_of};
 
 use crate::machine::{DocumentRequest, Message, Notification, Request};
 use isle_cli::failure::Failure;
@@ -116,6 +117,16 @@ fn request_of(name: &str) -> Request
         "completionItem/resolve" => Request::ResolveCompletion,
         "textDocument/prepareRename" => Request::PrepareRename,
         "textDocument/rename" => Request::Rename,
+        _ => call_request_of(name),
+    }
+}
+
+/// The request about calls or the types of variables with this method, or else the one about a
+/// document alone.
+fn call_request_of(name: &str) -> Request
+    ensures { result ≡ call_request_of name.now }
+{
+    match name {
         "textDocument/inlayHint" => Request::InlayHint,
         "textDocument/prepareCallHierarchy" => Request::PrepareCallHierarchy,
         "callHierarchy/incomingCalls" => Request::IncomingCalls,
