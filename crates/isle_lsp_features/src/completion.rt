@@ -1,7 +1,7 @@
 //! The completions at a place.
 
-ghost use Rattle.std.specs.Prelude.{◌≡◌, ◌++◌, IfOk, OnOk, Some, filter, map, nat_eq};
-ghost use Rattle.std.specs.Prelude.{option_map, string_bytes};
+ghost use Rattle.std.specs.Prelude.{◌≡◌, ◌≤◌, ◌++◌, IfOk, None, OnOk, Some, filter, length};
+ghost use Rattle.std.specs.Prelude.{map, min, nat_eq, option_map, string_bytes};
 ghost use Rattle.std.specs.List.{starts_with};
 ghost use Rattle.std.specs.List.Sorted.{IsPermutation, IsSortedByKey};
 ghost use Rattle.isle_index.specs.Candidates.{candidate_of};
@@ -9,6 +9,7 @@ ghost use Rattle.isle_index.specs.Held.{all_in};
 ghost use Rattle.isle_resolve.specs.Names.{global, named_of};
 ghost use Rattle.serde_json.specs.View.{view};
 ghost use Rattle.isle_lsp_protocol.specs.Items.{item_data, items_data};
+ghost use Rattle.isle_lsp_text.specs.Names.{name_before};
 ghost use Rattle.isle_lsp_features.specs.Completed as wanted;
 ghost use Rattle.isle_lsp_features.specs.Completed.{AreCompletions, word_of};
 
@@ -51,8 +52,9 @@ pub fn completion<'a>(
     let prefix = name_before(place.text, place.pos.offset);
     let found = index.candidates(alloc, place.pos, from, prefix)?;
     let slot = slot_at(alloc, place.text, place.pos.offset)?;
-    let words = sorted_words(alloc, &found, slot, prefix)?;
-    items(alloc, &words, range_before(place.text, place.pos.offset))
+    let words = sorted_words(alloc, found, slot, prefix)?;
+    let range = range_before(place.text, place.pos.offset, prefix);
+    items(alloc, words, range)
 }
 
 /// The start of the outermost list around an offset, or the end of the text if there is none.
@@ -65,25 +67,26 @@ fn outer_start(text: &str, lists: &[ListSpan], offset: usize) -> usize
     }
 }
 
-/// The range of the partly written name right before an offset.
-fn range_before(text: &str, offset: usize) -> Range
+/// The range of the partly written name right before an offset, which is this prefix.
+fn range_before(text: &str, offset: usize, prefix: &[u8]) -> Range
+    requires name { prefix.now ≡ name_before text.now offset }
+    requires within { length prefix.now ≤ min offset (length text.now) }
     ensures { result ≡ wanted.range_before text.now offset }
 {
     let end = offset.min(text.len());
-    let len = name_before(text, offset).len();
     let mut near = START;
-    range_between(text, &mut near, end - len, end)
+    range_between(text, &mut near, end - prefix.len(), end)
 }
 
 /// The candidates that may stand in a slot and the keywords that begin with a prefix, sorted.
 fn sorted_words(
     alloc: Global,
-    found: &[Candidate],
+    found: Vec<Candidate>,
     slot: Slot,
     prefix: &[u8],
 ) -> Result<Vec<Word>, AllocError>
     ensures exact { IfOk result (λ words. IsPermutation
-        (wanted.words slot prefix.now (map candidate_of found.now)) (map word_of words.items)) }
+        (wanted.words slot prefix.now (map candidate_of found.items)) (map word_of words.items)) }
     ensures in_order { IfOk result
         (λ words. IsSortedByKey (λ w. string_bytes w.text) wanted.text_order words.items) }
 {
@@ -95,34 +98,27 @@ fn sorted_words(
 /// The candidates that may stand in a slot, and then the keywords that begin with a prefix.
 fn all_words(
     alloc: Global,
-    found: &[Candidate],
+    found: Vec<Candidate>,
     slot: Slot,
     prefix: &[u8],
 ) -> Result<Vec<Word>, AllocError>
     ensures { IfOk result (λ words. map word_of words.items
-        ≡ wanted.words slot prefix.now (map candidate_of found.now)) }
+        ≡ wanted.words slot prefix.now (map candidate_of found.items)) }
 {
     let mut words = Vec::new(alloc);
-    add_names(alloc, found, names_of(slot), &mut words)?;
+    add_names(found, names_of(slot), &mut words)?;
     add_keywords(alloc, keywords_of(slot), prefix, &mut words)?;
     Ok(words)
 }
 
 /// Adds the candidates that are of these kinds.
-fn add_names(
-    alloc: Global,
-    found: &[Candidate],
-    names: Names,
-    words: &mut Vec<Word>,
-) -> Result<(), AllocError>
+fn add_names(found: Vec<Candidate>, names: Names, words: &mut Vec<Word>) -> Result<(), AllocError>
     ensures { OnOk result (map word_of words.new.items ≡ map word_of words.old.items
-        ++ map wanted.name_word (filter (wanted.is_of names) (map candidate_of found.now))) }
+        ++ map wanted.name_word (filter (wanted.is_of names) (map candidate_of found.items))) }
 {
     for candidate in found {
         if is_of(names, candidate.kind) {
-            let text = String::from_str(alloc, candidate.text.as_str())?;
-            let kind = number_of(candidate.kind);
-            words.push(Word { kind, text })?;
+            words.push(name_word(candidate))?;
         }
     }
     Ok(())
@@ -138,6 +134,16 @@ fn is_of(names: Names, kind: SymbolKind) -> bool
         Names::Types => matches!(kind, SymbolKind::Type),
         Names::Terms => matches!(kind, SymbolKind::Term | SymbolKind::Variant),
         Names::Values => !matches!(kind, SymbolKind::Type),
+    }
+}
+
+/// A candidate as a word.
+fn name_word(candidate: Candidate) -> Word
+    ensures { word_of result ≡ wanted.name_word (candidate_of candidate) }
+{
+    Word {
+        kind: number_of(candidate.kind),
+        text: candidate.text,
     }
 }
 
@@ -162,43 +168,35 @@ fn add_keywords(
     Ok(())
 }
 
-/// Words as items, each text once. They are sorted.
-fn items<'a>(alloc: Global, words: &[Word], range: Range) -> Result<Vec<Item<'a>>, AllocError>
+/// Words as items that replace a range, each text once. They are sorted.
+fn items<'a>(alloc: Global, mut words: Vec<Word>, range: Range) -> Result<Vec<Item<'a>>, AllocError>
     ensures { IfOk result
-        (λ items. items_data items.items ≡ wanted.items range (map word_of words.now)) }
+        (λ items. items_data items.items ≡ wanted.items range (map word_of words.items)) }
 {
+    drop_repeats(&mut words);
     let mut items = Vec::new(alloc);
-    let mut last: Option<&Word> = None;
     for word in words {
-        if !is_again(last, word) {
-            let item = word_item(alloc, word, range)?;
-            items.push(item)?;
-        }
-        last = Some(word);
+        items.push(word_item(word, range))?;
     }
     Ok(items)
 }
 
-/// Returns whether a word has the same text as the last one.
-fn is_again(last: Option<&Word>, word: &Word) -> bool
-    ensures { result ≡ wanted.is_again (option_map (λ w. word_of w.now) last.entry)
-        (word_of word.now) }
+/// Drops each word with the same text as the one before.
+fn drop_repeats(words: &mut Vec<Word>)
+    ensures { map word_of words.new.items ≡ wanted.once None (map word_of words.old.items) }
 {
-    match last {
-        Some(last) => last.text.as_str() == word.text.as_str(),
-        None => false,
-    }
+    words.dedup_by(|word, last| last.text == word.text);
 }
 
 /// A word as an item that replaces a range.
-fn word_item<'a>(alloc: Global, word: &Word, range: Range) -> Result<Item<'a>, AllocError>
-    ensures { IfOk result (λ item. item_data item ≡ wanted.item range (word_of word.now)) }
+fn word_item<'a>(word: Word, range: Range) -> Item<'a>
+    ensures { item_data result ≡ wanted.item range (word_of word) }
 {
-    Ok(Item::Completion {
-        name: String::from_str(alloc, word.text.as_str())?,
+    Item::Completion {
+        name: word.text,
         kind: word.kind,
         range,
-    })
+    }
 }
 
 /// The protocol's number of a keyword.
