@@ -12,12 +12,13 @@ use Rattle.isle_resolve.specs.Scopes.{SeenNode, seen}
 use Rattle.isle_index.specs.Symbols.{symbols}
 use Rattle.isle_resolve.specs.Events.{events}
 use Rattle.isle_lsp_protocol.specs.declared.machine.Request as requests
-use Rattle.isle_lsp_protocol.specs.declared.machine.Request.TheVariants.{Definition as AskDefinition, Implementation, References, DocumentHighlight, DocumentSymbol, WorkspaceSymbol, Hover, SignatureHelp, Completion, ResolveCompletion, PrepareRename, Rename}
+use Rattle.isle_lsp_protocol.specs.declared.machine.Request.TheVariants.{Definition as AskDefinition, Implementation, References, DocumentHighlight, DocumentSymbol, WorkspaceSymbol, Hover, SignatureHelp, Completion, ResolveCompletion, PrepareRename, Rename, PrepareCallHierarchy, IncomingCalls, OutgoingCalls}
 use Rattle.isle_lsp_protocol.specs.Items.{items_data}
 use Rattle.isle_lsp_protocol.specs.declared.items.Item.{Item}
 use Rattle.isle_lsp_protocol.specs.declared.machine.ErrorCode.TheVariants.{InvalidParams, RequestFailed}
 use Rattle.isle_lsp_protocol.specs.Parameters.{item_of, new_name_of, query_of, wants_definitions}
 use Rattle.isle_lsp_protocol.specs.Replies.{Outcome, done, error_outcome, failed}
+use Rattle.isle_lsp_features.specs.Called.{FindsCalls}
 use Rattle.isle_lsp_features.specs.Gathered.{AreParts, Part, all_known, refused_count}
 use Rattle.isle_lsp_features.specs.Implemented.{AreImplementations}
 use Rattle.isle_lsp_features.specs.Located.{AreHighlights, AreReferences, IsDefinition}
@@ -65,6 +66,9 @@ FindsAt PrepareRename program all p message d = d ≡ renamed.prepared p.text (r
 FindsAt Hover program all p message d = IsHover program p.text (name_at p.pos all) (occurrence_at p.pos all) all d
 FindsAt SignatureHelp program all p message d = IsSignature program p.text p.pos.offset all d
 FindsAt Completion program all p message d = AreCompletions p.pos p.text all d
+FindsAt PrepareCallHierarchy program all p message d = FindsCalls PrepareCallHierarchy program all p d
+FindsAt IncomingCalls program all p message d = FindsCalls IncomingCalls program all p d
+FindsAt OutgoingCalls program all p message d = FindsCalls OutgoingCalls program all p d
 FindsAt _ program all p message d = Unit {0}
 
 -- The outcome of renaming, from the index's answer. A text that other programs share is not edited: they would miss the new name. Nor is a name
@@ -117,6 +121,9 @@ IsAnswerOf Rename q program all a = IsRenamingAt q program all (place_in q progr
 IsAnswerOf Hover q program all a = IsFoundAt Hover program all (place_in q program) q.message a
 IsAnswerOf SignatureHelp q program all a = IsFoundAt SignatureHelp program all (place_in q program) q.message a
 IsAnswerOf Completion q program all a = IsFoundAt Completion program all (place_in q program) q.message a
+IsAnswerOf PrepareCallHierarchy q program all a = IsFoundAt PrepareCallHierarchy program all (place_in q program) q.message a
+IsAnswerOf IncomingCalls q program all a = IsFoundAt IncomingCalls program all (place_in q program) q.message a
+IsAnswerOf OutgoingCalls q program all a = IsFoundAt OutgoingCalls program all (place_in q program) q.message a
 IsAnswerOf ResolveCompletion q program all a = IsResolution program all (item_of q.message) a
 IsAnswerOf WorkspaceSymbol q program all a = a ≡ done (workspace_symbols (letters_of (query_of q.message)) program all)
 IsAnswerOf _ q program all a = Unit {0}

@@ -1,4 +1,5 @@
 pub mod Answers
+pub mod Called
 pub mod Completed
 pub mod Defined
 pub mod Gathered

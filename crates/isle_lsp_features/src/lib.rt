@@ -14,6 +14,7 @@ ghost use Rattle.isle_lsp_features.specs.Gathered.{IsGathered};
 ghost use Rattle.isle_lsp_features.specs.Places as wanted;
 ghost use Rattle.isle_lsp_protocol.specs.Replies.{outcome_of};
 
+mod calls;
 mod completion;
 mod gathered;
 mod hover;
@@ -181,7 +182,7 @@ fn answer_at<'a>(
         }
         Request::Completion => Ok(list_outcome(Some(completion::completion(alloc, index, place)?))),
         Request::PrepareRename => Ok(Outcome::Done(renaming::prepare(alloc, index, place)?)),
-        _ => Ok(Outcome::Done(Value::Null)),
+        request => Ok(Outcome::Done(calls::calls(alloc, program, index, request, place)?)),
     }
 }
 

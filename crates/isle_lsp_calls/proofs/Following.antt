@@ -1,0 +1,32 @@
+-- What is found text by text, and word by word.
+use Rattle.std.proofs.Common.{◌≡◌, ◌∙◌, ◌+◌, ◌++◌, ℕ, List, ◌∷◌, ap, flat_map, refl, subst, sym}
+use Rattle.std.proofs.lemmas.List.{append_assoc}
+use Rattle.serde_json.specs.Data.{Data}
+use Rattle.isle_index.specs.declared.occurrences.Occurrence.{Occurrence}
+use Rattle.isle_lsp_calls.specs.Incoming.{AreIncomingFrom, AreIncomingIn, incoming_in}
+use Rattle.isle_lsp_calls.specs.Outgoing.{AreCallsOf, IsCallOf}
+use Rattle.isle_lsp_calls.specs.Sources.{Source}
+use Rattle.isle_lsp_text.specs.Calls.{AreCallers}
+use Rattle.isle_lsp_text.specs.declared.calls.Caller.{Caller}
+use Rattle.isle_resolve.specs.Scopes.{SeenNode}
+
+-- the calls by a text, behind those of the texts before it
+pub next_text : (left next program : List Source) (s : Source) (number : ℕ) (all : List SeenNode) (found : List Occurrence) (callers : List Caller) (old new : List Data)
+    → left ≡ s ∷ next → AreCallers s.text callers → new ≡ old ++ flat_map (incoming_in number s all found) callers
+    → ((rest : List Data) → AreIncomingFrom number left all found rest → AreIncomingFrom 0 program all found (old ++ rest))
+    → (rest : List Data) → AreIncomingFrom (number + 1) next all found rest → AreIncomingFrom 0 program all found (new ++ rest)
+next_text left next program s number all found callers old new e are grown so_far rest others =
+    let here : List Data = flat_map (incoming_in number s all found) callers in
+    let first : AreIncomingFrom number (s ∷ next) all found (here ++ rest) = (here, rest, (callers, are, refl), others, refl) in
+    let more = so_far (here ++ rest) (subst (λ ss. AreIncomingFrom number ss all found (here ++ rest)) (sym e) first) in
+    subst (AreIncomingFrom 0 program all found) (sym (ap (λ ds. ds ++ rest) grown ∙ append_assoc old here rest)) more
+
+-- the calls of a word, behind those of the words before it
+pub next_word : (left next words : List (List ℕ)) (w : List ℕ) (program : List Source) (number : ℕ) (text : List ℕ) (callers : List Caller) (all : List SeenNode) (old new here : List Data)
+    → left ≡ w ∷ next → IsCallOf program number text callers all w here → new ≡ old ++ here
+    → ((rest : List Data) → AreCallsOf program number text callers all left rest → AreCallsOf program number text callers all words (old ++ rest))
+    → (rest : List Data) → AreCallsOf program number text callers all next rest → AreCallsOf program number text callers all words (new ++ rest)
+next_word left next words w program number text callers all old new here e is grown so_far rest others =
+    let first : AreCallsOf program number text callers all (w ∷ next) (here ++ rest) = (here, rest, is, others, refl) in
+    let more = so_far (here ++ rest) (subst (λ ws. AreCallsOf program number text callers all ws (here ++ rest)) (sym e) first) in
+    subst (AreCallsOf program number text callers all words) (sym (ap (λ ds. ds ++ rest) grown ∙ append_assoc old here rest)) more

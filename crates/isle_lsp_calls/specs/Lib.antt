@@ -1,0 +1,5 @@
+pub mod Incoming
+pub mod Items
+pub mod Outgoing
+pub mod Ranges
+pub mod Sources

@@ -1,0 +1,156 @@
+//! Incoming calls: the rules and extractors of a program that use a term.
+
+ghost use Rattle.std.specs.Prelude.{◌≡◌, ◌++◌, IfOk, List, OnOk, map, option_map, option_to_list};
+ghost use Rattle.serde_json.specs.View.{view};
+ghost use Rattle.isle_index.specs.Held.{all_in};
+ghost use Rattle.isle_lsp_calls.specs.Incoming as wanted;
+ghost use Rattle.isle_lsp_calls.specs.Incoming.{AreIncomingFrom, AreIncomingIn, IsIncoming};
+ghost use Rattle.isle_lsp_calls.specs.Items.{term_at};
+ghost use Rattle.isle_lsp_calls.specs.Sources.{source_of};
+ghost use Rattle.isle_lsp_text.specs.Positions.{IsPlace};
+ghost use Rattle.isle_resolve.specs.Names.{name_text, named_of};
+ghost use Rattle.serde_json.specs.Data.{Data};
+ghost use Rattle.std.specs.List.{flat_map};
+
+use crate::Source;
+use crate::items::term_at;
+use crate::ranges::calls_in;
+use isle_base::lexer::Pos;
+use isle_index::{Index, Occurrence};
+use isle_lsp_protocol::results::{CallItem, call_item, incoming_call};
+use isle_lsp_text::calls::{Caller, callers};
+use isle_lsp_text::positions::{Place, START};
+use isle_lsp_text::ranges::{range_between, range_near};
+use serde_json::Value;
+use std::alloc::{AllocError, Global};
+use std::slice;
+
+/// The calls of the term at a place, by the definition that makes them, text by text, or null if
+/// there is no term.
+///
+/// The definitions are those that implement a term (`callers` of `isle_lsp_text`), and their calls
+/// all occurrences of the term in them, except for the name that they implement.
+pub fn incoming(
+    alloc: Global,
+    program: &[Source],
+    index: &Index,
+    place: Pos,
+) -> Result<Value, AllocError>
+    ensures { let all = all_in index.now in IfOk result (λ value.
+        IsIncoming (map source_of program.now) (term_at place all) all (view value)) }
+{
+    match term_at(alloc, index, place)? {
+        Some(name) => {
+            let found = index.occurrences(alloc, &name)?;
+            let calls = incoming_among(alloc, program, index, &found)?;
+            Ok(Value::Array(calls))
+        }
+        None => Ok(Value::Null),
+    }
+}
+
+/// The calls that are among these occurrences, text by text.
+fn incoming_among(
+    alloc: Global,
+    program: &[Source],
+    index: &Index,
+    found: &[Occurrence],
+) -> Result<Vec<Value>, AllocError>
+    ensures { IfOk result (λ calls. AreIncomingFrom 0 (map source_of program.now)
+        (all_in index.now) found.now (map view calls.items)) }
+{
+    let mut calls = Vec::new(alloc);
+    for (number, source) in program.iter().enumerate() {
+        let callers = callers(alloc, source.text)?;
+        add_incoming(alloc, number, *source, index, &callers, found, &mut calls)?;
+    }
+    Ok(calls)
+}
+
+/// Adds the calls by these definitions of the text with this number.
+fn add_incoming(
+    alloc: Global,
+    number: usize,
+    source: Source,
+    index: &Index,
+    callers: &[Caller],
+    found: &[Occurrence],
+    calls: &mut Vec<Value>,
+) -> Result<(), AllocError>
+    ensures { OnOk result (map view calls.new.items ≡ map view calls.old.items
+        ++ flat_map (wanted.incoming_in number (source_of source.entry) (all_in index.now)
+        found.now) callers.now) }
+{
+    let mut near = START;
+    for caller in callers {
+        let call = incoming_in(alloc, number, source, index, &mut near, caller, found)?;
+        if let Some(call) = call {
+            calls.push(call)?;
+        }
+    }
+    Ok(())
+}
+
+/// The calls by a definition of the text with this number, if there are any. The walk to the
+/// definition begins at a place nearby, which becomes that of the name that it implements.
+fn incoming_in(
+    alloc: Global,
+    number: usize,
+    source: Source,
+    index: &Index,
+    near: &mut Place,
+    caller: &Caller,
+    found: &[Occurrence],
+) -> Result<Option<Value>, AllocError>
+    requires { IsPlace source.text.now near.old }
+    ensures call { IfOk result (λ call. option_to_list (option_map view call)
+        ≡ wanted.incoming_in number (source_of source.entry) (all_in index.now) found.now
+        caller.now) }
+    ensures near { IsPlace source.entry.text.now near.new }
+{
+    let ranges = calls_in(
+        alloc,
+        number,
+        source.text,
+        *near,
+        slice::from_ref(caller),
+        found,
+    )?;
+    if ranges.is_empty() {
+        return Ok(None);
+    }
+    match term_at(alloc, index, Pos::new(number, caller.name))? {
+        Some(name) => {
+            let from = caller_item(alloc, source, near, caller, name.text())?;
+            Ok(Some(incoming_call(alloc, from, &ranges)?))
+        }
+        None => Ok(None),
+    }
+}
+
+/// The item of a definition that implements this name.
+fn caller_item(
+    alloc: Global,
+    source: Source,
+    near: &mut Place,
+    caller: &Caller,
+    name: &str,
+) -> Result<Value, AllocError>
+    requires { IsPlace source.text.now near.old }
+    ensures item { IfOk result (λ item. view item
+        ≡ wanted.caller_item (source_of source.entry) caller.now name.now) }
+    ensures near { IsPlace source.entry.text.now near.new }
+{
+    let (uri, text) = (source.uri, source.text);
+    let range = range_between(text, near, caller.from, caller.to);
+    let selection = range_near(text, near, caller.name, name.len());
+    call_item(
+        alloc,
+        CallItem {
+            name,
+            uri,
+            range,
+            selection,
+        },
+    )
+}

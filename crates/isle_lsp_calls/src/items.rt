@@ -1,0 +1,148 @@
+//! The items of the call hierarchy: the terms of a program, by their definitions.
+
+ghost use Rattle.std.specs.Prelude.{◌≡◌, IfOk, Some, map, option_map, slice_get};
+ghost use Rattle.serde_json.specs.View.{view};
+ghost use Rattle.isle_index.specs.Held.{all_in};
+ghost use Rattle.isle_lsp_calls.specs.Items as wanted;
+ghost use Rattle.isle_lsp_calls.specs.Items.{IsFirstItem, IsItem, IsItemIn, IsPrepared, item_list};
+ghost use Rattle.isle_lsp_calls.specs.Sources.{source_of};
+ghost use Rattle.isle_resolve.specs.Names.{named_of};
+
+use crate::Source;
+use isle_base::lexer::Pos;
+use isle_index::{Index, Kind, Name, Occurrence};
+use isle_lsp_protocol::results::{CallItem, call_item};
+use isle_lsp_text::lists::lists;
+use isle_lsp_text::positions::START;
+use isle_lsp_text::ranges::{range_at, range_between};
+use isle_lsp_text::wholes::whole_of;
+use serde_json::Value;
+use std::alloc::{AllocError, Global};
+
+/// The item of the term at a place, in a list, or null if there is none.
+pub fn prepare(
+    alloc: Global,
+    program: &[Source],
+    index: &Index,
+    place: Pos,
+) -> Result<Value, AllocError>
+    ensures { let all = all_in index.now in IfOk result (λ value.
+        IsPrepared (map source_of program.now) (wanted.term_at place all) all (view value)) }
+{
+    match term_at(alloc, index, place)? {
+        Some(name) => {
+            let item = item_of(alloc, program, index, &name)?;
+            item_list(alloc, item)
+        }
+        None => Ok(Value::Null),
+    }
+}
+
+/// The name at a place, if it is that of a term.
+pub(crate) fn term_at(alloc: Global, index: &Index, place: Pos) -> Result<Option<Name>, AllocError>
+    ensures { IfOk result
+        (λ name. option_map named_of name ≡ wanted.term_at place (all_in index.now)) }
+{
+    match index.name_at(alloc, place)? {
+        Some(name) if is_term(&name) => Ok(Some(name)),
+        _ => Ok(None),
+    }
+}
+
+/// Returns whether a name is that of a term.
+fn is_term(name: &Name) -> bool
+    ensures { result ≡ wanted.is_term (named_of name.now) }
+{
+    match name {
+        Name::Global { kind, .. } => matches!(kind, Kind::Term),
+        Name::Variable { .. } => false,
+    }
+}
+
+/// The item of a name, which is its first definition, or `None` if it is not defined.
+pub(crate) fn item_of(
+    alloc: Global,
+    program: &[Source],
+    index: &Index,
+    name: &Name,
+) -> Result<Option<Value>, AllocError>
+    ensures { IfOk result (λ item. IsItem (map source_of program.now) (named_of name.now)
+        (all_in index.now) (option_map view item)) }
+{
+    let found = index.definitions(alloc, name)?;
+    match found.first() {
+        Some(definition) => item_at(alloc, program, name, *definition),
+        None => Ok(None),
+    }
+}
+
+/// The item of a definition, or `None` if its text is not in the program.
+fn item_at(
+    alloc: Global,
+    program: &[Source],
+    name: &Name,
+    definition: Occurrence,
+) -> Result<Option<Value>, AllocError>
+    ensures { IfOk result (λ item. IsFirstItem (map source_of program.now) (named_of name.now)
+        (Some definition) (option_map view item)) }
+{
+    match source_at(program, definition.pos.file) {
+        Some(source) => {
+            let item = item_in(alloc, *source, name, definition)?;
+            Ok(Some(item))
+        }
+        None => Ok(None),
+    }
+}
+
+/// The text with this number.
+fn source_at<'a>(program: &'a [Source<'a>], number: usize) -> Option<&'a Source<'a>>
+    ensures { option_map (λ s. source_of s.now) result
+        ≡ slice_get (map source_of program.now) number }
+{
+    program.get(number)
+}
+
+/// The item of a definition in this text: its name, and the extent of the whole definition.
+fn item_in(
+    alloc: Global,
+    source: Source,
+    name: &Name,
+    definition: Occurrence,
+) -> Result<Value, AllocError>
+    ensures { IfOk result (λ item.
+        IsItemIn (source_of source.entry) (named_of name.now) definition (view item)) }
+{
+    let (uri, text) = (source.uri, source.text);
+    let (offset, len) = (definition.pos.offset, definition.len);
+    let lists = lists(alloc, text)?;
+    let is_variant = len < name.text().len();
+    let whole = whole_of(text, &lists, is_variant, offset, len);
+    let mut near = START;
+    let range = range_between(text, &mut near, whole.from, whole.to);
+    let selection = range_at(text, offset, len);
+    let name = name.text();
+    call_item(
+        alloc,
+        CallItem {
+            name,
+            uri,
+            range,
+            selection,
+        },
+    )
+}
+
+/// A list of an item, or null if there is none.
+fn item_list(alloc: Global, item: Option<Value>) -> Result<Value, AllocError>
+    ensures { IfOk result (λ value. view value ≡ item_list (option_map view item.entry)) }
+{
+    match item {
+        Some(item) => {
+            let mut items = Vec::new(alloc);
+            items.push(item)?;
+            Ok(Value::Array(items))
+        }
+        None => Ok(Value::Null),
+    }
+}
