@@ -53,6 +53,17 @@ TOLD_APART = {
         ("insert", "prelude.isle", "", "(rule 1 (shared y) y)\n"),
         ("implementation", ARM_FILE, "shared", "prelude.isle:1:10", "prelude.isle:4:8"),
     ],
+    "calls of a name that they share": [
+        ("incoming", "prelude.isle", "shared", f"{X64_FILE}:2:1", f"{ARM_FILE}:3:1"),
+        ("incoming", X64_FILE, "shared", f"{X64_FILE}:2:1"),
+        ("incoming", ARM_FILE, "lower", f"{ARM_FILE}:3:1"),
+        ("outgoing", ARM_FILE, "lower", "prelude.isle:2:1", f"{ARM_FILE}:2:1"),
+        ("outgoing", "prelude.isle", "shared"),
+        ("open", "prelude.isle"),
+        ("insert", "prelude.isle", "", "(rule 1 (shared (shared y)) y)\n"),
+        ("incoming", ARM_FILE, "shared", "prelude.isle:1:1", f"{ARM_FILE}:3:1"),
+        ("outgoing", "prelude.isle", "shared", "prelude.isle:3:1"),
+    ],
     "a name that they share": [
         ("definition", X64_FILE, "shared", "prelude.isle:2:7"),
         ("references", "prelude.isle", "shared", "prelude.isle:2:7", "prelude.isle:3:8", f"{X64_FILE}:2:15", f"{ARM_FILE}:3:15"),

@@ -467,6 +467,24 @@ class Reading:
         return BEGINS.match(self.text, begun) is not None and {begun, mark.start} <= self.starts
 
     @functools.cached_property
+    def callers(self):
+        """The names that definitions implement, each with where its definition begins and ends."""
+        return [(it, next(whole for whole in self.definitions if whole[0] <= it.start < whole[1])) for it in self.marks if it.implements]
+
+    def called(self, callers):
+        """The terms in these definitions besides the names that they implement, each with its places, in the order of the first symbols that are
+        like their names."""
+        roots = {root.start for root, _ in callers}
+        parts = [(it.start, it.end, it) for it in self.marks if it.kind == TERM]
+        parts += [(it.start, it.end, it.text) for it in tokens_of(self.text)[0] if it.kind == "symbol"]
+        found = {}
+        for start, _, it in sorted(parts, key=lambda it: it[:2]):
+            if start not in roots and any(begin < start < end for _, (begin, end) in callers):
+                marks = found.setdefault(it if isinstance(it, str) else it.name, [])
+                marks += [it] if isinstance(it, Mark) else []
+        return {name: marks for name, marks in found.items() if marks}
+
+    @functools.cached_property
     def starts(self):
         return {it.start for it in tokens_of(self.text)[0]}
 
