@@ -1,11 +1,11 @@
 -- The calls of a term, as JSON.
-use Rattle.std.specs.Prelude.{◌≡◌, ℕ, ◌+◌, List, [], ◌∷◌, ◌++◌, Option, None, Some, length}
+use Rattle.std.specs.Prelude.{◌≡◌, ℕ, ◌+◌, List, [], ◌∷◌, ◌++◌, ◌==◌, Option, None, Some, length, if◌then◌else◌}
 use Rattle.std.specs.List.{flat_map}
 use Rattle.serde_json.specs.Data.{Data, null, array}
 use Rattle.serde_json.specs.View.{items_of}
 use Rattle.isle_index.specs.Occurrences.{occurrences}
 use Rattle.isle_index.specs.declared.occurrences.Occurrence.{Occurrence}
-use Rattle.isle_lsp_calls.specs.Items.{InOrder, term_at}
+use Rattle.isle_lsp_calls.specs.Items.{InOrder, pos, term_at}
 use Rattle.isle_lsp_calls.specs.Ranges.{calls_in}
 use Rattle.isle_lsp_calls.specs.Sources.{Source}
 use Rattle.isle_lsp_protocol.specs.Results.{call_item, incoming_call}
@@ -20,16 +20,16 @@ use Rattle.isle_resolve.specs.Scopes.{SeenNode}
 abbrev pub caller_item : Source → Caller → (name : List ℕ) → Data
 caller_item s c name = call_item name s.uri (range_between s.text c.from c.to) (range_at s.text c.name (length name))
 
--- the calls in these ranges, if there are any, by a definition that implements a term
-abbrev pub incoming_of : Source → Caller → (implemented : Option NameNode) → List Range → List Data
-incoming_of s c implemented [] = []
-incoming_of s c None (r ∷ rs) = []
-incoming_of s c (Some term) (r ∷ rs) = incoming_call (caller_item s c (name_text term)) (r ∷ rs) ∷ []
+-- the calls in these ranges by a definition, if it implements a term
+abbrev pub by_caller : Source → Caller → (implemented : Option NameNode) → List Range → List Data
+by_caller s c None rs = []
+by_caller s c (Some term) rs = incoming_call (caller_item s c (name_text term)) rs ∷ []
 
--- those of the occurrences that are calls by a definition of the text with this number
+-- those of the occurrences that are calls by a definition of the text with this number, if there are any
 abbrev pub incoming_in : ℕ → Source → List SeenNode → List Occurrence → Caller → List Data
 incoming_in number s all found c =
-    incoming_of s c (term_at (record { file = number; offset = c.name }) all) (calls_in number s.text (c ∷ []) found)
+    let rs : List Range = calls_in number s.text (c ∷ []) found in
+    if length rs == 0 then [] else by_caller s c (term_at (pos number c.name) all) rs
 
 abbrev pub AreIncomingIn : ℕ → Source → List SeenNode → List Occurrence → List Data → Type 0
 AreIncomingIn number s all found ds =

@@ -19,6 +19,9 @@ use Rattle.isle_resolve.specs.Names.{NameNode, global, variable, name_text}
 use Rattle.isle_resolve.specs.Scopes.{SeenNode}
 use Rattle.isle_resolve.specs.declared.event.Kind.TheVariants as kinds
 
+abbrev pub pos : (file offset : ℕ) → Pos
+pos file offset = record { file = file; offset = offset }
+
 -- these occurrences, each once, in order of position
 pub record InOrder (all found : List Occurrence) : Type 0 where
   pub exact : IsPermutation all found

@@ -1,5 +1,5 @@
 -- The calls by the definitions that implement a term, as JSON.
-use Rattle.std.specs.Prelude.{◌≡◌, ℕ, List, [], ◌∷◌, ◌++◌, Bool, ◌&&◌, ◌==◌, Option, None, Some, filter, if◌then◌else◌}
+use Rattle.std.specs.Prelude.{◌≡◌, ℕ, List, [], ◌∷◌, ◌++◌, Bool, ◌&&◌, ◌==◌, Option, None, Some, filter, length, if◌then◌else◌}
 use Rattle.std.specs.List.{list_any}
 use Rattle.serde_json.specs.Data.{Data, null, array}
 use Rattle.serde_json.specs.View.{items_of}
@@ -34,8 +34,7 @@ AreAsked number text found at callers = (all : List Caller) × AreCallers text a
 
 -- the calls in these ranges, if there are any, of the term with this item
 abbrev pub outgoing_to : Data → List Range → List Data
-outgoing_to to [] = []
-outgoing_to to (r ∷ rs) = outgoing_call to (r ∷ rs) ∷ []
+outgoing_to to rs = if length rs == 0 then [] else outgoing_call to rs ∷ []
 
 -- the calls by these definitions of a term, which is defined if it has an item
 abbrev pub IsCallTo : ℕ → (text : List ℕ) → List Caller → List SeenNode → (term : NameNode) → (item : Option Data) → List Data → Type 0

@@ -1,25 +1,23 @@
 //! Incoming calls: the rules and extractors of a program that use a term.
 
-ghost use Rattle.std.specs.Prelude.{◌≡◌, ◌++◌, IfOk, List, OnOk, map, option_map, option_to_list};
+ghost use Rattle.std.specs.Prelude.{◌≡◌, ◌++◌, IfOk, OnOk, map, option_map, option_to_list};
 ghost use Rattle.serde_json.specs.View.{view};
 ghost use Rattle.isle_index.specs.Held.{all_in};
 ghost use Rattle.isle_lsp_calls.specs.Incoming as wanted;
-ghost use Rattle.isle_lsp_calls.specs.Incoming.{AreIncomingFrom, AreIncomingIn, IsIncoming};
-ghost use Rattle.isle_lsp_calls.specs.Items.{term_at};
+ghost use Rattle.isle_lsp_calls.specs.Incoming.{AreIncomingFrom, IsIncoming};
+ghost use Rattle.isle_lsp_calls.specs.Items.{pos, term_at};
 ghost use Rattle.isle_lsp_calls.specs.Sources.{source_of};
 ghost use Rattle.isle_lsp_text.specs.Positions.{IsPlace};
-ghost use Rattle.isle_resolve.specs.Names.{name_text, named_of};
-ghost use Rattle.serde_json.specs.Data.{Data};
 ghost use Rattle.std.specs.List.{flat_map};
 
 use crate::Source;
-use crate::items::term_at;
+use crate::items::{add_some, term_at};
 use crate::ranges::calls_in;
 use isle_base::lexer::Pos;
 use isle_index::{Index, Occurrence};
 use isle_lsp_protocol::results::{CallItem, call_item, incoming_call};
 use isle_lsp_text::calls::{Caller, callers};
-use isle_lsp_text::positions::{Place, START};
+use isle_lsp_text::positions::{Place, Range, START};
 use isle_lsp_text::ranges::{range_between, range_near};
 use serde_json::Value;
 use std::alloc::{AllocError, Global};
@@ -84,9 +82,7 @@ fn add_incoming(
     let mut near = START;
     for caller in callers {
         let call = incoming_in(alloc, number, source, index, &mut near, caller, found)?;
-        if let Some(call) = call {
-            calls.push(call)?;
-        }
+        add_some(calls, call)?;
     }
     Ok(())
 }
@@ -119,10 +115,29 @@ fn incoming_in(
     if ranges.is_empty() {
         return Ok(None);
     }
+    by_caller(alloc, number, source, index, near, caller, &ranges)
+}
+
+/// The calls in these ranges by a definition of the text with this number, if it implements a term.
+fn by_caller(
+    alloc: Global,
+    number: usize,
+    source: Source,
+    index: &Index,
+    near: &mut Place,
+    caller: &Caller,
+    ranges: &[Range],
+) -> Result<Option<Value>, AllocError>
+    requires { IsPlace source.text.now near.old }
+    ensures call { let place = pos number caller.now.name in IfOk result (λ call.
+        option_to_list (option_map view call) ≡ wanted.by_caller (source_of source.entry)
+        caller.now (term_at place (all_in index.now)) ranges.now) }
+    ensures near { IsPlace source.entry.text.now near.new }
+{
     match term_at(alloc, index, Pos::new(number, caller.name))? {
         Some(name) => {
             let from = caller_item(alloc, source, near, caller, name.text())?;
-            Ok(Some(incoming_call(alloc, from, &ranges)?))
+            Ok(Some(incoming_call(alloc, from, ranges)?))
         }
         None => Ok(None),
     }

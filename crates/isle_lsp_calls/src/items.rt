@@ -1,6 +1,7 @@
 //! The items of the call hierarchy: the terms of a program, by their definitions.
 
-ghost use Rattle.std.specs.Prelude.{◌≡◌, IfOk, Some, map, option_map, slice_get};
+ghost use Rattle.std.specs.Prelude.{◌≡◌, ◌++◌, IfOk, OnOk, Some, map, option_map, option_to_list};
+ghost use Rattle.std.specs.Prelude.{slice_get};
 ghost use Rattle.serde_json.specs.View.{view};
 ghost use Rattle.isle_index.specs.Held.{all_in};
 ghost use Rattle.isle_lsp_calls.specs.Items as wanted;
@@ -135,7 +136,7 @@ fn item_in(
 
 /// A list of an item, or null if there is none.
 fn item_list(alloc: Global, item: Option<Value>) -> Result<Value, AllocError>
-    ensures { IfOk result (λ value. view value ≡ item_list (option_map view item.entry)) }
+    ensures { IfOk result (λ value. view value ≡ item_list (option_map view item)) }
 {
     match item {
         Some(item) => {
@@ -145,4 +146,15 @@ fn item_list(alloc: Global, item: Option<Value>) -> Result<Value, AllocError>
         }
         None => Ok(Value::Null),
     }
+}
+
+/// Adds a value to a list, if there is one.
+pub(crate) fn add_some(values: &mut Vec<Value>, value: Option<Value>) -> Result<(), AllocError>
+    ensures { OnOk result (map view values.new.items
+        ≡ map view values.old.items ++ option_to_list (option_map view value)) }
+{
+    if let Some(value) = value {
+        values.push(value)?;
+    }
+    Ok(())
 }

@@ -13,7 +13,7 @@ ghost use Rattle.isle_lsp_calls.specs.Sources.{source_of};
 ghost use Rattle.isle_resolve.specs.Names.{named_of};
 
 use crate::Source;
-use crate::items::{item_of, term_at};
+use crate::items::{add_some, item_of, term_at};
 use crate::ranges::calls_in;
 use isle_base::lexer::Pos;
 use isle_index::{Index, Kind, Name, Occurrence};
@@ -148,9 +148,8 @@ fn calls_of(
 {
     let mut calls = Vec::new(alloc);
     for word in words {
-        if let Some(call) = call_of(alloc, program, index, number, text, callers, word)? {
-            calls.push(call)?;
-        }
+        let call = call_of(alloc, program, index, number, text, callers, word)?;
+        add_some(&mut calls, call)?;
     }
     Ok(calls)
 }
@@ -190,7 +189,7 @@ fn call_to(
     to: Value,
 ) -> Result<Option<Value>, AllocError>
     ensures { IfOk result (λ call. IsCallTo number text.now callers.now (all_in index.now)
-        (named_of name.now) (Some (view to.entry)) (option_to_list (option_map view call))) }
+        (named_of name.now) (Some (view to)) (option_to_list (option_map view call))) }
 {
     let found = index.occurrences(alloc, name)?;
     let ranges = calls_in(alloc, number, text, START, callers, &found)?;
