@@ -2,8 +2,10 @@
 use Rattle.std.proofs.Common.{◌≡◌, ◌∙◌, ◌+◌, ◌++◌, ℕ, List, [], ◌∷◌, Option, Some, ap, flat_map, refl, subst, sym}
 use Rattle.std.proofs.lemmas.List.{append_assoc}
 use Rattle.serde_json.specs.Data.{Data}
+use Rattle.isle_base_source.specs.declared.pos.Pos.{Pos}
 use Rattle.isle_index.specs.declared.occurrences.Occurrence.{Occurrence}
 use Rattle.isle_lsp_calls.specs.Incoming.{AreIncomingFrom, by_caller, caller_item, incoming_in}
+use Rattle.isle_lsp_calls.specs.Items.{pos}
 use Rattle.isle_lsp_calls.specs.Outgoing.{AreCallsOf, IsCallOf}
 use Rattle.isle_lsp_calls.specs.Sources.{Source}
 use Rattle.isle_lsp_protocol.specs.Results.{incoming_call}
@@ -12,6 +14,10 @@ use Rattle.isle_lsp_text.specs.declared.calls.Caller.{Caller}
 use Rattle.isle_lsp_text.specs.declared.positions.Range.{Range}
 use Rattle.isle_resolve.specs.Names.{NameNode, name_text}
 use Rattle.isle_resolve.specs.Scopes.{SeenNode}
+
+-- a position is its file and its offset
+pub is_pos : (p : Pos) (file offset : ℕ) → p.file ≡ file → p.offset ≡ offset → p ≡ pos file offset
+is_pos p file offset in_file at = rw (← in_file, ← at) refl
 
 -- the calls by a definition that implements a term
 pub called_by : (s : Source) (c : Caller) (implemented : Option NameNode) (term : NameNode) (rs : List Range) (item call : Data)
