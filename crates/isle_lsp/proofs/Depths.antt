@@ -9,6 +9,8 @@ use Rattle.isle_lsp_colours.proofs.Depths.{tokens_shallow}
 use Rattle.isle_lsp_colours.specs.Coloured.{AreTokens}
 use Rattle.isle_lsp_files.specs.Disks.{View}
 use Rattle.isle_lsp_files.specs.Documents.{Document}
+use Rattle.isle_lsp_files.specs.Texts.{programs_of}
+use Rattle.isle_lsp_diagnostics.proofs.HintDepths.{hints_depth}
 use Rattle.isle_lsp_protocol.specs.declared.machine.DocumentRequest.{DocumentRequest}
 use Rattle.isle_lsp_protocol.specs.declared.machine.DocumentRequest.TheVariants.{Formatting, RangeFormatting, OnTypeFormatting, FoldingRange, SelectionRange, SemanticTokens, SemanticTokensRange, CodeAction}
 use Rattle.isle_lsp_protocol.specs.Parameters.{positions_of, range_of as asked_range, typed_range}
@@ -22,12 +24,12 @@ use Rattle.isle_lsp_protocol.specs.Decoding.{Decodes}
 use Rattle.isle_lsp_protocol.specs.Replies.{IsTextOf, Outcome, error_response, failed, reply, reply_id}
 use Rattle.isle_lsp_protocol.specs.declared.machine.ErrorCode.{ErrorCode}
 use Rattle.isle_lsp_protocol.specs.declared.machine.Request as requests
-use Rattle.isle_lsp_protocol.specs.declared.machine.Request.TheVariants.{Initialize, Shutdown, Document as Alone, DocumentSymbol, WorkspaceSymbol, Definition, Implementation, References, DocumentHighlight, Hover, SignatureHelp, Completion, ResolveCompletion, PrepareRename, Rename, Unknown}
+use Rattle.isle_lsp_protocol.specs.declared.machine.Request.TheVariants.{Initialize, Shutdown, Document as Alone, DocumentSymbol, WorkspaceSymbol, Definition, Implementation, References, DocumentHighlight, Hover, SignatureHelp, Completion, ResolveCompletion, PrepareRename, Rename, InlayHint, PrepareCallHierarchy, IncomingCalls, OutgoingCalls, Unknown}
 use Rattle.isle_lsp_protocol.proofs.Depths.{IsWithin, at_most, initialized_depth, reply_depth, within}
 use Rattle.isle_lsp_features.proofs.Depths.{IsAboutNames, answer_within}
 use Rattle.isle_lsp.specs.Alone.{FormatsUnless, Gives, GivesAt, GivesWithin, IsAlone, IsFormattingWithin, IsOfDocument}
 use Rattle.isle_lsp.specs.Formatted.{IsFormatting, is_blank_at}
-use Rattle.isle_lsp.specs.Serving.{Held, IsNamed, IsResult, IsResultOf, IsShallow, document_in, question}
+use Rattle.isle_lsp.specs.Serving.{AreViewHints, Held, IsNamed, IsResult, IsResultOf, IsShallow, document_in, named_range, question}
 
 -- what was decoded nests no deeper than JSON is read
 pub decoded : (body : List ℕ) (json : Option Data) → Decodes body json → IsShallow json
@@ -85,6 +87,8 @@ result_within : (request : requests.Request) (d : Data) (held : Held) (view : Vi
 result_within Initialize d held view o m h = within 126 o _ h (omega (arith, initialized_depth))
 result_within Shutdown d held view o m h = within 126 o _ h (omega arith)
 result_within (Alone request) d held view o m h = alone_within request d held.takes_document_changes (document_in d held.documents) o h
+result_within InlayHint d held view o m h =
+    range_within (AreViewHints held.documents view) (named_range d) o (λ range x f. omega (arith, hints_depth (programs_of held.documents view view.file) view.file range x f)) h
 result_within Unknown d held view o m h = within 126 o _ h tt
 result_within DocumentSymbol d held view o m h = named_within DocumentSymbol d held view o tt m h
 result_within WorkspaceSymbol d held view o m h = named_within WorkspaceSymbol d held view o tt m h
@@ -98,6 +102,9 @@ result_within Completion d held view o m h = named_within Completion d held view
 result_within ResolveCompletion d held view o m h = named_within ResolveCompletion d held view o tt m h
 result_within PrepareRename d held view o m h = named_within PrepareRename d held view o tt m h
 result_within Rename d held view o m h = named_within Rename d held view o tt m h
+result_within PrepareCallHierarchy d held view o m h = named_within PrepareCallHierarchy d held view o tt m h
+result_within IncomingCalls d held view o m h = named_within IncomingCalls d held view o tt m h
+result_within OutgoingCalls d held view o m h = named_within OutgoingCalls d held view o tt m h
 
 outcome_within : (request : requests.Request) (d : Option Data) (held : Held) (view : View) (o : Outcome) → IsShallow d → IsResultOf request d held view o → IsWithin 126 o
 outcome_within request None held view o m h = within 126 o _ h tt

@@ -9,7 +9,7 @@ use Rattle.isle_lsp_protocol.specs.declared.machine.ErrorCode.TheVariants.{Inval
 use Rattle.isle_lsp_protocol.specs.declared.machine.Notification as notifications
 use Rattle.isle_lsp_protocol.specs.declared.machine.Notification.TheVariants.{Initialized, DidOpen, DidChange, DidClose, DidChangeWorkspaceFolders, DidChangeWatchedFiles}
 use Rattle.isle_lsp_protocol.specs.declared.machine.Request as requests
-use Rattle.isle_lsp_protocol.specs.declared.machine.Request.TheVariants.{Initialize, Shutdown, Document as Alone, PrepareRename, Rename, Unknown}
+use Rattle.isle_lsp_protocol.specs.declared.machine.Request.TheVariants.{Initialize, Shutdown, Document as Alone, InlayHint, PrepareRename, Rename, Unknown}
 use Rattle.isle_lsp_protocol.specs.declared.machine.State.{State}
 use Rattle.isle_lsp_protocol.specs.declared.machine.Action as actions
 use Rattle.isle_lsp_protocol.specs.declared.machine.Action.TheVariants.{Ignore, Answer, Reject, Handle}
@@ -20,8 +20,10 @@ use Rattle.isle_lsp_protocol.specs.Capabilities.{initialize_result}
 use Rattle.isle_lsp_protocol.specs.Watching.{watch_request}
 use Rattle.isle_lsp_features.specs.Answers as names
 use Rattle.isle_lsp_features.specs.Programs.{Question}
-use Rattle.isle_lsp.specs.Alone.{IsAlone}
+use Rattle.isle_lsp.specs.Alone.{GivesWithin, IsAlone}
+use Rattle.isle_lsp_diagnostics.specs.Hints.{AreHints}
 use Rattle.isle_lsp_diagnostics.specs.Published.{IsPublished}
+use Rattle.isle_lsp_text.specs.declared.positions.Range.{Range}
 use Rattle.isle_lsp.specs.declared.server.Server.{Server}
 
 -- the state of the server: of the session, the open documents, the folders by their URIs, whether the client takes edits with versions, and whether it
@@ -107,11 +109,20 @@ question request d held view =
 abbrev pub IsNamed : requests.Request → Data → Held → View → Outcome → Type 0
 IsNamed request d held view o = names.IsAnswer (question request d held view) (program_of (is_some (parameters.uri_of d)) held.documents view) o
 
+-- the range in a message that names a document
+abbrev pub named_range : Data → Option Range
+named_range d = option_and_then (λ uri. parameters.range_of d) (parameters.uri_of d)
+
+-- the types of variables in a range of the view's file: of the programs that have it, as their files are open or as the disk shows them
+abbrev pub AreViewHints : List Document → View → Range → Data → Type 0
+AreViewHints docs view range d = AreHints (programs_of docs view view.file) view.file range d
+
 -- the outcome of a request with these parameters, in this state
 abbrev pub IsResult : requests.Request → Data → Held → View → Outcome → Type 0
 IsResult Initialize d held view o = o ≡ done initialize_result
 IsResult Shutdown d held view o = o ≡ done null
 IsResult (Alone request) d held view o = IsAlone request d held.takes_document_changes (document_in d held.documents) o
+IsResult InlayHint d held view o = GivesWithin (AreViewHints held.documents view) (named_range d) o
 IsResult Unknown d held view o = o ≡ error_outcome MethodNotFound
 IsResult request d held view o = IsNamed request d held view o
 

@@ -4,6 +4,7 @@
 mod alone;
 mod conversation;
 mod formatting;
+mod hints;
 mod program;
 mod reports;
 mod server;

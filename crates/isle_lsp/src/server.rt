@@ -20,6 +20,7 @@ ghost use Rattle.isle_lsp.specs.Serving.{documents_after_notification, folders_a
 ghost use Rattle.isle_lsp.specs.Serving.{IsReplyUnless, watches_after};
 
 use crate::alone::outcome_alone;
+use crate::hints::hints_outcome;
 use crate::reports::handle;
 use isle_cli::failure::Failure;
 use isle_lsp_diagnostics::Checks;
@@ -430,6 +431,7 @@ fn outcome_in<'a>(
                 document,
             )
         }
+        Request::InlayHint => hints_outcome(alloc, &server.documents, message, shown),
         Request::Unknown => Ok(error_outcome(ErrorCode::MethodNotFound)),
         _ => name_outcome(alloc, server, gathered, request, message, shown),
     }

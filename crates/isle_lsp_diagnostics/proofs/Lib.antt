@@ -1,4 +1,5 @@
 pub mod Depths
+pub mod HintDepths
 pub mod Readings
 pub mod Sent
 pub mod Tokens

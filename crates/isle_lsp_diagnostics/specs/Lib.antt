@@ -3,3 +3,4 @@ pub mod Marks
 pub mod Diagnostics
 pub mod Published
 pub mod Versions
+pub mod Hints

@@ -178,7 +178,7 @@ fn check_program(alloc: Global, program: &[Text]) -> Result<Checked, Failure>
 }
 
 /// The texts of a program, without names.
-fn sources_of(alloc: Global, program: &[Text]) -> Result<Vec<Source>, AllocError>
+pub fn sources_of(alloc: Global, program: &[Text]) -> Result<Vec<Source>, AllocError>
     ensures { IfOk result (λ sources. map source_of sources.items
         ≡ wanted.sources_of (map text_of program.now)) }
 {
