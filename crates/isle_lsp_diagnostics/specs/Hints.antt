@@ -1,17 +1,18 @@
 -- The types of variables, each shown behind the variable's first mention.
-use Rattle.std.specs.Prelude.{◌≡◌, ℕ, ◌+◌, ◌==◌, List, [], ◌∷◌, ◌++◌, Bool, ◌&&◌, Option, None, Some, codes, filter, length, map, min, nat_le, if◌then◌else◌}
-use Rattle.std.specs.List.{flat_map}
+use Rattle.std.specs.Prelude.{◌≡◌, ℕ, ◌+◌, ◌==◌, List, [], ◌∷◌, ◌++◌, Bool, false, not, ◌&&◌, ◌||◌, Option, None, Some, codes, filter, length, map, min, nat_le, if◌then◌else◌}
+use Rattle.std.specs.List.{flat_map, list_any}
 use Rattle.serde_json.specs.Data.{Data, array, no_items}
 use Rattle.serde_json.specs.View.{items_of}
 use Rattle.isle_base_source.specs.declared.error.Error.{Error}
 use Rattle.isle_ast_names.specs.Tree.{Name}
-use Rattle.isle_ast_rules.specs.Tree.{RuleDefinition}
+use Rattle.isle_ast_rules.specs.Tree.{ExtractorDefinition, RuleDefinition}
 use Rattle.isle_ast.specs.Tree.{Definition}
 use Rattle.isle_lint_core.specs.Variables as patterns
 use Rattle.isle_check_environment.specs.Names.{has}
-use Rattle.isle_check_environment.specs.Parts.{rules_in}
+use Rattle.isle_check_environment.specs.Parts.{extractors_in, rules_in}
 use Rattle.isle_check_environment.specs.signatures.Environment.{EnvironmentNode, environment}
-use Rattle.isle_check_recursion.specs.Recursion.{RecursionNode, recursions}
+use Rattle.isle_check_environment.specs.signatures.Signatures.{TermNode}
+use Rattle.isle_check_recursion.specs.Recursion.{recursions}
 use Rattle.isle_check_rules.specs.RuleTypes.{rule_variables}
 use Rattle.isle_check_typing.specs.Progress.{FoundNode, VariableNode, find}
 use Rattle.isle_program.specs.Reading.{IsReading}
@@ -73,13 +74,20 @@ rule_hints text env r = hints_by text (rule_variables 500 env r) (first_mentions
 abbrev pub file_hints : File → EnvironmentNode → List RuleDefinition → List HintNode
 file_hints f env rs = flat_map (rule_hints f.text env) (filter (λ r. r.pos.file == f.number) rs)
 
--- without extractors that use themselves; with them there are no hints, since their patterns can't be written out
-abbrev pub unless_recursive : List RecursionNode → List HintNode → List HintNode
-unless_recursive [] hs = hs
-unless_recursive (x ∷ xs) hs = []
+abbrev pub is_variant : Option TermNode → Bool
+is_variant None = false
+is_variant (Some t) = t.is_variant
 
+abbrev pub have_variant : EnvironmentNode → List ExtractorDefinition → Bool
+have_variant env xs = list_any (λ x. is_variant (env.terms x.term.text)) xs
+
+-- whether writing out an internal extractor may have no end: one uses itself, or is one of a variant
+abbrev pub are_endless : List Definition → Bool
+are_endless ds = have_variant (environment ds) (extractors_in ds) || not (length (recursions ds) == 0)
+
+-- the hints of a file, from the definitions of its program
 abbrev pub hints_in : File → List Definition → List HintNode
-hints_in f ds = unless_recursive (recursions ds) (file_hints f (environment ds) (rules_in ds))
+hints_in f ds = if are_endless ds then [] else file_hints f (environment ds) (rules_in ds)
 
 -- ---- the answer
 

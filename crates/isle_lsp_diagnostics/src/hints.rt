@@ -7,8 +7,9 @@ ghost use Rattle.isle_ast.specs.MacroArgs.{definitions_have_macro_arg};
 ghost use Rattle.isle_ast.specs.TreeView.{definitions_of};
 ghost use Rattle.isle_ast_names.specs.TreeView.{name_of};
 ghost use Rattle.isle_ast_rules.specs.TreeView.{rule_of};
-ghost use Rattle.isle_check_environment.specs.Views.{rules_at};
-ghost use Rattle.isle_check_environment.specs.signatures.Views.{environment_of};
+ghost use Rattle.isle_check_environment.specs.Views.{extractors_at, rules_at};
+ghost use Rattle.isle_check_environment.specs.signatures.Environment.{environment};
+ghost use Rattle.isle_check_environment.specs.signatures.Views.{environment_of, term_of};
 ghost use Rattle.isle_check_typing.specs.Views.{found_of, variables_of};
 ghost use Rattle.isle_cli.specs.declared.failure.Failure.TheVariants.{Memory};
 ghost use Rattle.isle_lint_core.specs.Names.{names_at};
@@ -20,9 +21,9 @@ ghost use Rattle.isle_lsp_protocol.specs.Items.{items_data};
 
 use crate::checks::sources_of;
 use crate::mentions::first_mentions;
-use isle_ast::ast::{Def, Ident, Rule};
-use isle_check_environment::parts::rules_in;
-use isle_check_environment::signatures::Environment;
+use isle_ast::ast::{Def, Extractor, Ident, Rule};
+use isle_check_environment::parts::{extractors_in, rules_in};
+use isle_check_environment::signatures::{Environment, Term};
 use isle_check_recursion::recursions;
 use isle_check_rules::rule_variables;
 use isle_check_typing::{Found, Refusal, Variable, find};
@@ -51,8 +52,9 @@ pub struct Hint<'e> {
 /// included.
 ///
 /// The types are those of the first of these programs, which are those that have the file. A text
-/// that does not parse contributes nothing, and errors elsewhere change nothing, except that there
-/// are no hints while an internal extractor uses itself. The only error is `Memory`.
+/// that does not parse contributes nothing. There are no hints while an internal extractor uses
+/// itself, or is one of a variant, since then its patterns may have no end. The only error is
+/// `Memory`.
 pub fn inlay_hints<'a>(
     alloc: Global,
     programs: &[Vec<Text>],
@@ -115,12 +117,48 @@ fn items_in<'a>(
         (wanted.hints_in (places.file_of file.entry) (definitions_of defs.now))) }
 {
     let env = Environment::new(alloc, defs)?;
-    if !recursions(alloc, &env, defs)?.is_empty() {
+    if are_endless(alloc, &env, defs)? {
         return Ok(Vec::new(alloc));
     }
     let rules = rules_in(alloc, defs)?;
     let hints = rules_hints(alloc, file, &env, &rules)?;
     items(alloc, file.text, range, &hints)
+}
+
+/// Returns whether writing out an internal extractor may have no end: one uses itself, or is one of
+/// a variant. `env` is the environment of the program.
+fn are_endless(alloc: Global, env: &Environment, defs: &[Def]) -> Result<bool, AllocError>
+    requires { environment_of env.now ≡ environment (definitions_of defs.now) }
+    ensures { IfOk result (λ are. are ≡ wanted.are_endless (definitions_of defs.now)) }
+{
+    let extractors = extractors_in(alloc, defs)?;
+    if have_variant(env, &extractors) {
+        return Ok(true);
+    }
+    let recursions = recursions(alloc, env, defs)?;
+    Ok(!recursions.is_empty())
+}
+
+/// Returns whether one of these internal extractors is one of a variant.
+fn have_variant(env: &Environment, extractors: &[&Extractor]) -> bool
+    ensures { result
+        ≡ wanted.have_variant (environment_of env.now) (extractors_at extractors.now) }
+{
+    for extractor in extractors {
+        if is_variant(env.term(extractor.term.0.as_str())) {
+            return true;
+        }
+    }
+    false
+}
+
+fn is_variant(term: Option<&Term>) -> bool
+    ensures { result ≡ wanted.is_variant (option_map (λ t. term_of t.now) term.entry) }
+{
+    match term {
+        Some(term) => term.is_variant,
+        None => false,
+    }
 }
 
 /// The hints of those of these rules that stand in a file.
