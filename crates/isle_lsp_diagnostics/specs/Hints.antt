@@ -67,12 +67,16 @@ hints_by text None ns = []
 hints_by text (Some vs) ns = flat_map (hint text vs) ns
 
 -- the hints of a rule. There are none where more than 500 patterns or expressions lie in one another
-abbrev pub rule_hints : List ℕ → EnvironmentNode → RuleDefinition → List HintNode
+unfoldable pub rule_hints : List ℕ → EnvironmentNode → RuleDefinition → List HintNode
 rule_hints text env r = hints_by text (rule_variables 500 env r) (first_mentions r)
+
+-- the same, if the rule stands in this file
+abbrev pub hints_if_in : File → EnvironmentNode → RuleDefinition → List HintNode
+hints_if_in f env r = if r.pos.file == f.number then rule_hints f.text env r else []
 
 -- the hints of the rules of a file
 abbrev pub file_hints : File → EnvironmentNode → List RuleDefinition → List HintNode
-file_hints f env rs = flat_map (rule_hints f.text env) (filter (λ r. r.pos.file == f.number) rs)
+file_hints f env rs = flat_map (hints_if_in f env) rs
 
 abbrev pub is_variant : Option TermNode → Bool
 is_variant None = false

@@ -17,7 +17,7 @@ ghost use Rattle.isle_lsp_diagnostics.specs.Hints as wanted;
 ghost use Rattle.isle_lsp_diagnostics.specs.Hints.{AreFileHints, AreHints, AreHintsOf, hint_of};
 ghost use Rattle.isle_lsp_features.specs.Places as places;
 ghost use Rattle.isle_lsp_features.specs.Programs.{text_of};
-ghost use Rattle.isle_lsp_protocol.specs.Items.{items_data};
+ghost use Rattle.isle_lsp_protocol.specs.Items.{item_data, items_data};
 
 use crate::checks::sources_of;
 use crate::mentions::first_mentions;
@@ -122,7 +122,7 @@ fn items_in<'a>(
     }
     let rules = rules_in(alloc, defs)?;
     let hints = rules_hints(alloc, file, &env, &rules)?;
-    items(alloc, file.text, range, &hints)
+    items(alloc, file.text, &within(alloc, file.text, range, &hints)?)
 }
 
 /// Returns whether writing out an internal extractor may have no end: one uses itself, or is one of
@@ -174,13 +174,30 @@ fn rules_hints<'e>(
 {
     let mut hints = Vec::new(alloc);
     for rule in rules {
-        if rule.pos.file == file.number {
-            add_rule_hints(alloc, file.text, env, rule, &mut hints)?;
-        }
+        add_hints_if_in(alloc, file, env, rule, &mut hints)?;
     }
     Ok(hints)
 }
 
+/// Adds the hints of a rule, if it stands in a file.
+fn add_hints_if_in<'e>(
+    alloc: Global,
+    file: File,
+    env: &'e Environment,
+    rule: &Rule,
+    hints: &mut Vec<Hint<'e>>,
+) -> Result<(), AllocError>
+    ensures { OnOk result (map hint_of hints.new.items ≡ map hint_of hints.old.items
+        ++ wanted.hints_if_in (places.file_of file.entry) (environment_of env.now)
+        (rule_of rule.now)) }
+{
+    if rule.pos.file == file.number {
+        return add_rule_hints(alloc, file.text, env, rule, hints);
+    }
+    Ok(())
+}
+
+#[tactic(auto, unfolding(crate::specs::Hints::rule_hints))]
 fn add_rule_hints<'e>(
     alloc: Global,
     text: &str,
@@ -239,28 +256,40 @@ fn end_of(text: &str, name: &Ident) -> usize
     name.1.offset.min(text.len()) + name.0.len()
 }
 
-/// The hints that lie within a range of a text, as items.
-fn items<'a>(
+/// The hints that lie within a range of a text.
+fn within<'e>(
     alloc: Global,
     text: &str,
     range: Range,
-    hints: &[Hint],
-) -> Result<Vec<Item<'a>>, AllocError>
-    ensures { IfOk result (λ items. items_data items.items
-        ≡ wanted.hints_data text.now range (map hint_of hints.now)) }
+    hints: &[Hint<'e>],
+) -> Result<Vec<Hint<'e>>, AllocError>
+    ensures { IfOk result (λ found. map hint_of found.items
+        ≡ wanted.are_within text.now range (map hint_of hints.now)) }
 {
     let from = offset_of(text, range.start);
     let to = offset_of(text, range.end);
+    let mut found = Vec::new(alloc);
+    for hint in hints {
+        if from <= hint.offset && hint.offset <= to {
+            found.push(*hint)?;
+        }
+    }
+    Ok(found)
+}
+
+/// Hints in a text as items.
+fn items<'a>(alloc: Global, text: &str, hints: &[Hint]) -> Result<Vec<Item<'a>>, AllocError>
+    ensures { IfOk result (λ items. map item_data items.items
+        ≡ map (wanted.hint_data text.now) (map hint_of hints.now)) }
+{
     let mut near = START;
     let mut items = Vec::new(alloc);
     for hint in hints {
-        if from <= hint.offset && hint.offset <= to {
-            near = place_at(text, near, hint.offset);
-            items.push(Item::InlayHint {
-                position: near.position,
-                label: label_of(alloc, hint.ty)?,
-            })?;
-        }
+        near = place_at(text, near, hint.offset);
+        items.push(Item::InlayHint {
+            position: near.position,
+            label: label_of(alloc, hint.ty)?,
+        })?;
     }
     Ok(items)
 }
