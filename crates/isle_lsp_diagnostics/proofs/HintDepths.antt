@@ -1,5 +1,5 @@
 -- How deep the types of variables nest that are shown.
-use Rattle.std.proofs.Common.{◌++◌, ℕ, ◌≤◌, List, [], ◌∷◌, None, Option, Some, codes, arith}
+use Rattle.std.proofs.Common.{ℕ, ◌≤◌, List, [], ◌∷◌, None, Option, Some, arith}
 use Rattle.serde_json.specs.Data.{Data, depth}
 use Rattle.isle_lsp_text.specs.Positions.{position_at}
 use Rattle.isle_lsp_text.specs.declared.positions.Range.{Range}
