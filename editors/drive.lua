@@ -44,6 +44,20 @@ vim.lsp.buf.implementation()
 wait(function() return vim.fn.line(".") == 5 end)
 tell("implementation", place(vim.fn.line(".") - 1, vim.fn.col(".")))
 
+-- The list that a command fills: names, each with its line and its unit of UTF-16.
+local function listed(command)
+  vim.fn.setqflist({})
+  command()
+  wait(function() return #vim.fn.getqflist() > 0 end)
+  vim.cmd("cclose")
+  return vim.tbl_map(function(it) return { it.text, it.lnum - 1, it.col - 1 } end, vim.fn.getqflist())
+end
+vim.fn.search("decl \\zsf ", "cw")
+tell("incoming", listed(vim.lsp.buf.incoming_calls))
+vim.fn.search("rule (\\zsf ", "cw")
+tell("outgoing", listed(vim.lsp.buf.outgoing_calls))
+
+vim.fn.setqflist({})
 at_use(vim.lsp.buf.references)
 wait(function() return #vim.fn.getqflist() > 0 end)
 vim.cmd("cclose")
