@@ -16,11 +16,14 @@ use Rattle.isle_lsp_text.specs.declared.lists.ListSpan.{ListSpan}
 use Rattle.isle_lsp_text.specs.declared.positions.Range.{Range}
 use Rattle.isle_lsp_protocol.proofs.Depths.{AreShallow, IsAtMost, IsWithin, append_shallow, at_most, completion_depth, document_edits_depth, documented_depth, edits_depth, flat_map_shallow, hover_depth, item_at_most, items_shallow, location_depth, map_shallow, put_depth, range_depth, ranged_depth, symbol_depth, within, workspace_symbol_depth}
 use Rattle.isle_lsp_protocol.specs.declared.machine.Request as requests
-use Rattle.isle_lsp_protocol.specs.declared.machine.Request.TheVariants.{Definition as AskDefinition, Implementation, References, DocumentHighlight, DocumentSymbol, WorkspaceSymbol, Hover, SignatureHelp, Completion, ResolveCompletion, PrepareRename, Rename, Initialize, Shutdown, Document, Unknown}
+use Rattle.isle_lsp_protocol.specs.declared.machine.Request.TheVariants.{Definition as AskDefinition, Implementation, References, DocumentHighlight, DocumentSymbol, WorkspaceSymbol, Hover, SignatureHelp, Completion, ResolveCompletion, PrepareRename, Rename, InlayHint, PrepareCallHierarchy, IncomingCalls, OutgoingCalls, Initialize, Shutdown, Document, Unknown}
 use Rattle.isle_lsp_protocol.specs.Items.{edits_data}
 use Rattle.isle_lsp_protocol.specs.Parameters.{item_of, new_name_of, query_of, wants_definitions}
 use Rattle.isle_lsp_protocol.specs.Replies.{Outcome, done, failed}
 use Rattle.isle_lsp_features.specs.Answers.{AreSymbols, FindsAt, IsAnswer, IsAnswerOf, IsFoundAt, IsRenamingAt, IsRenamingBy, IsRenamingOf, IsResolution, refused}
+use Rattle.isle_lsp_calls.proofs.Depths as calls
+use Rattle.isle_lsp_calls.specs.Items.{term_at}
+use Rattle.isle_lsp_features.specs.Called.{source_in}
 use Rattle.isle_lsp_features.specs.Completed.{AreCompletions, item_name, once, range_before, word_of}
 use Rattle.isle_lsp_features.specs.Defined.{AreDocumentSymbols, is_variant, letters_of, number_of, range_of, symbol_data, symbol_in, symbols_from, workspace_symbols}
 use Rattle.isle_lsp_features.specs.Implemented.{AreImplementations, AreImplementationsFrom, AreImplementationsIn, AreImplementationsOf, is_implementation, is_term}
@@ -242,6 +245,9 @@ IsAboutNames SignatureHelp = Unit {0}
 IsAboutNames Completion = Unit {0}
 IsAboutNames ResolveCompletion = Unit {0}
 IsAboutNames WorkspaceSymbol = Unit {0}
+IsAboutNames PrepareCallHierarchy = Unit {0}
+IsAboutNames IncomingCalls = Unit {0}
+IsAboutNames OutgoingCalls = Unit {0}
 IsAboutNames _ = ⊥
 
 answer_of_within : (request : requests.Request) (q : Question) (program : List Text) (all : List SeenNode) (a : Outcome) → IsAboutNames request → depth q.message ≤ 127
@@ -268,6 +274,16 @@ answer_of_within Completion q program all a n m h =
     found_within Completion program all (place_in q program) q.message a (λ x d f. completions_depth x.pos x.text all d f) h
 answer_of_within ResolveCompletion q program all a n m h = resolution_within program all (item_of q.message) a (item_at_most 127 q.message m) h
 answer_of_within WorkspaceSymbol q program all a n m h = within 126 a _ h (omega (arith, workspace_depth (letters_of (query_of q.message)) program all))
+answer_of_within PrepareCallHierarchy q program all a n m h =
+    found_within PrepareCallHierarchy program all (place_in q program) q.message a
+    (λ x d f. calls.prepared_depth (map source_in program) (term_at x.pos all) all d f) h
+answer_of_within IncomingCalls q program all a n m h =
+    found_within IncomingCalls program all (place_in q program) q.message a
+    (λ x d f. calls.incoming_depth (map source_in program) (term_at x.pos all) all d f) h
+answer_of_within OutgoingCalls q program all a n m h =
+    found_within OutgoingCalls program all (place_in q program) q.message a
+    (λ x d f. calls.outgoing_depth (map source_in program) x.pos.file x.text (term_at x.pos all) (occurrence_at x.pos all) all d f) h
+answer_of_within InlayHint q program all a n m h = absurd n
 answer_of_within Initialize q program all a n m h = absurd n
 answer_of_within Shutdown q program all a n m h = absurd n
 answer_of_within (Document alone) q program all a n m h = absurd n
