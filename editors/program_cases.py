@@ -55,13 +55,13 @@ TOLD_APART = {
     ],
     "calls of a name that they share": [
         ("incoming", "prelude.isle", "shared", f"{X64_FILE}:2:1", f"{ARM_FILE}:3:1"),
-        ("incoming", X64_FILE, "shared", f"{X64_FILE}:2:1"),
+        ("incoming", X64_FILE, "shared", f"{X64_FILE}:2:1", f"{ARM_FILE}:3:1"),
         ("incoming", ARM_FILE, "lower", f"{ARM_FILE}:3:1"),
         ("outgoing", ARM_FILE, "lower", "prelude.isle:2:1", f"{ARM_FILE}:2:1"),
         ("outgoing", "prelude.isle", "shared"),
         ("open", "prelude.isle"),
         ("insert", "prelude.isle", "", "(rule 1 (shared (shared y)) y)\n"),
-        ("incoming", ARM_FILE, "shared", "prelude.isle:1:1", f"{ARM_FILE}:3:1"),
+        ("incoming", ARM_FILE, "shared", "prelude.isle:1:1", f"{X64_FILE}:2:1", f"{ARM_FILE}:3:1"),
         ("outgoing", "prelude.isle", "shared", "prelude.isle:3:1"),
     ],
     "a name that they share": [
