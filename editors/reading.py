@@ -475,14 +475,19 @@ class Reading:
         """The terms in these definitions besides the names that they implement, each with its places, in the order of the first symbols that are
         like their names."""
         roots = {root.start for root, _ in callers}
-        parts = [(it.start, it.end, it) for it in self.marks if it.kind == TERM]
-        parts += [(it.start, it.end, it.text) for it in tokens_of(self.text)[0] if it.kind == "symbol"]
         found = {}
-        for start, _, it in sorted(parts, key=lambda it: it[:2]):
+        for start, _, it in self.parts:
             if start not in roots and any(begin < start < end for _, (begin, end) in callers):
                 marks = found.setdefault(it if isinstance(it, str) else it.name, [])
                 marks += [it] if isinstance(it, Mark) else []
         return {name: marks for name, marks in found.items() if marks}
+
+    @functools.cached_property
+    def parts(self):
+        """The terms, and the texts of symbols, each with where it begins and ends, in the order of their places."""
+        parts = [(it.start, it.end, it) for it in self.marks if it.kind == TERM]
+        parts += [(it.start, it.end, it.text) for it in tokens_of(self.text)[0] if it.kind == "symbol"]
+        return sorted(parts, key=lambda it: it[:2])
 
     @functools.cached_property
     def starts(self):
