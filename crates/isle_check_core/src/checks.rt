@@ -36,7 +36,7 @@ use std::alloc::{AllocError, Global};
 
 /// How many patterns or expressions of a rule may lie in one another once templates are filled and
 /// conversions are written out.
-const RULE_DEPTH: usize = 500;
+pub const RULE_DEPTH: usize = 500;
 
 /// Returns the errors of a program: those of the first group that has any, in the order in which
 /// upstream reports them. The groups are types and constants; declared terms; the left sides of

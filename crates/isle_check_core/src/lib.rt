@@ -6,7 +6,7 @@ mod finding;
 mod kinds;
 mod warnings;
 
-pub use checks::check;
+pub use checks::{RULE_DEPTH, check};
 pub use finding::{Finding, Kind};
 pub use isle_check_messages::{Note, Words};
 pub use kinds::is_kind;

@@ -25,6 +25,7 @@ pub use finding::Finding;
 use finding::add;
 use isle_ast::ast::{Def, Ident};
 pub use lint::Lint;
+pub use patterns::rule_variables;
 use rule_names::repeated_rule_names;
 use rules::{Asked, find_variables};
 use std::alloc::{AllocError, Global};

@@ -25,7 +25,8 @@ pub const ALL: Wanted = Wanted {
     bindings: true,
 };
 
-/// The variables of all patterns of a rule, once for each occurrence, in source order.
+/// The variables of all patterns of a rule, those of its conditions included, once for each
+/// occurrence, in source order. An `Err` means out of memory.
 pub fn rule_variables(alloc: Global, rule: &Rule) -> Result<Vec<&Ident>, AllocError>
     ensures { IfOk result (λ names. names_at names.items ≡ rule_variables (rule_of rule.now)) }
 {
