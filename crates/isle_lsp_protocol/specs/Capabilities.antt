@@ -3,8 +3,11 @@ use Rattle.std.specs.Prelude.{codes, true}
 use Rattle.serde_json.specs.Data.{Data, array, boolean, item, member, no_items, no_members, number, object, string, unsigned}
 
 -- code actions are quick fixes
+abbrev pub code_action_kinds : Data
+code_action_kinds = array (item (string (codes "quickfix")) (item (string (codes "refactor.inline")) no_items))
+
 abbrev pub code_actions : Data
-code_actions = object (member (codes "codeActionKinds") (array (item (string (codes "quickfix")) no_items)) no_members)
+code_actions = object (member (codes "codeActionKinds") code_action_kinds no_members)
 
 -- names are completed, also at `.` and `$`, and the chosen ones are described
 abbrev pub completion : Data

@@ -13,7 +13,7 @@ use std::alloc::Global;
 const INITIALIZE_RESULT: &str = "{\
     \"capabilities\":{\
     \"callHierarchyProvider\":true,\
-    \"codeActionProvider\":{\"codeActionKinds\":[\"quickfix\"]},\
+    \"codeActionProvider\":{\"codeActionKinds\":[\"quickfix\",\"refactor.inline\"]},\
     \"completionProvider\":{\"resolveProvider\":true,\"triggerCharacters\":[\".\",\"$\"]},\
     \"definitionProvider\":true,\
     \"documentFormattingProvider\":true,\
