@@ -1,5 +1,6 @@
 """An independent reading of ISLE: the names of texts, where they are defined and used, and what renaming one makes of the texts."""
 
+import bisect
 import functools
 import math
 import re
@@ -76,6 +77,7 @@ def comment_end(text, start):
     return None
 
 
+@functools.lru_cache(maxsize=64)
 def tokens_of(text):
     """The tokens of a text, and whether they stop at what is no token."""
     tokens, at = [], 0
@@ -476,10 +478,12 @@ class Reading:
         like their names."""
         roots = {root.start for root, _ in callers}
         found = {}
-        for start, _, it in self.parts:
-            if start not in roots and any(begin < start < end for _, (begin, end) in callers):
-                marks = found.setdefault(it if isinstance(it, str) else it.name, [])
-                marks += [it] if isinstance(it, Mark) else []
+        for begin, end in sorted({whole for _, whole in callers}):
+            inside = (bisect.bisect_left(self.parts, (it, math.inf)) for it in (begin, end - 1))
+            for start, _, it in self.parts[slice(*inside)]:
+                if start not in roots:
+                    marks = found.setdefault(it if isinstance(it, str) else it.name, [])
+                    marks += [it] if isinstance(it, Mark) else []
         return {name: marks for name, marks in found.items() if marks}
 
     @functools.cached_property

@@ -295,6 +295,7 @@ class Typing:
             return {}
         return dict(self.bound)
 
+    @functools.lru_cache(maxsize=None)
     def hints(self, number):
         """The types of the variables in the text of a number, each with the end of its first mention."""
         if self.is_endless():
