@@ -4,7 +4,6 @@ use Rattle.serde_json.specs.Data.{Data, depth}
 use Rattle.serde_json.specs.Read.{read}
 use Rattle.serde_json.proofs.Nesting.{depth-read}
 use Rattle.isle_lsp_actions.proofs.Depths.{answer_depth}
-use Rattle.isle_lsp_actions.specs.Answers.{AreActions}
 use Rattle.isle_lsp_colours.proofs.Depths.{tokens_shallow}
 use Rattle.isle_lsp_colours.specs.Coloured.{AreTokens}
 use Rattle.isle_lsp_files.specs.Disks.{View}
@@ -12,7 +11,7 @@ use Rattle.isle_lsp_files.specs.Documents.{Document}
 use Rattle.isle_lsp_files.specs.Texts.{programs_of}
 use Rattle.isle_lsp_diagnostics.proofs.HintDepths.{hints_depth}
 use Rattle.isle_lsp_protocol.specs.declared.machine.DocumentRequest.{DocumentRequest}
-use Rattle.isle_lsp_protocol.specs.declared.machine.DocumentRequest.TheVariants.{Formatting, RangeFormatting, OnTypeFormatting, FoldingRange, SelectionRange, SemanticTokens, SemanticTokensRange, CodeAction}
+use Rattle.isle_lsp_protocol.specs.declared.machine.DocumentRequest.TheVariants.{Formatting, RangeFormatting, OnTypeFormatting, FoldingRange, SelectionRange, SemanticTokens, SemanticTokensRange}
 use Rattle.isle_lsp_protocol.specs.Parameters.{positions_of, range_of as asked_range, typed_range}
 use Rattle.isle_lsp_ranges.proofs.Depths.{foldings_depth, selections_depth}
 use Rattle.isle_lsp_ranges.proofs.Depths as ranges
@@ -24,12 +23,12 @@ use Rattle.isle_lsp_protocol.specs.Decoding.{Decodes}
 use Rattle.isle_lsp_protocol.specs.Replies.{IsTextOf, Outcome, error_response, failed, reply, reply_id}
 use Rattle.isle_lsp_protocol.specs.declared.machine.ErrorCode.{ErrorCode}
 use Rattle.isle_lsp_protocol.specs.declared.machine.Request as requests
-use Rattle.isle_lsp_protocol.specs.declared.machine.Request.TheVariants.{Initialize, Shutdown, Document as Alone, DocumentSymbol, WorkspaceSymbol, Definition, Implementation, References, DocumentHighlight, Hover, SignatureHelp, Completion, ResolveCompletion, PrepareRename, Rename, InlayHint, PrepareCallHierarchy, IncomingCalls, OutgoingCalls, Unknown}
+use Rattle.isle_lsp_protocol.specs.declared.machine.Request.TheVariants.{Initialize, Shutdown, Document as Alone, DocumentSymbol, WorkspaceSymbol, Definition, Implementation, References, DocumentHighlight, Hover, SignatureHelp, Completion, ResolveCompletion, PrepareRename, Rename, InlayHint, CodeAction, PrepareCallHierarchy, IncomingCalls, OutgoingCalls, Unknown}
 use Rattle.isle_lsp_protocol.proofs.Depths.{IsWithin, at_most, initialized_depth, reply_depth, within}
 use Rattle.isle_lsp_features.proofs.Depths.{IsAboutNames, answer_within}
 use Rattle.isle_lsp.specs.Alone.{FormatsUnless, Gives, GivesAt, GivesWithin, IsAlone, IsFormattingWithin, IsOfDocument}
 use Rattle.isle_lsp.specs.Formatted.{IsFormatting, is_blank_at}
-use Rattle.isle_lsp.specs.Serving.{AreViewHints, Held, IsNamed, IsResult, IsResultOf, IsShallow, document_in, named_range, question}
+use Rattle.isle_lsp.specs.Serving.{AreDocumentActions, AreViewHints, GivesActions, Held, IsNamed, IsResult, IsResultOf, IsShallow, document_in, named_range, question}
 
 -- what was decoded nests no deeper than JSON is read
 pub decoded : (body : List ℕ) (json : Option Data) → Decodes body json → IsShallow json
@@ -63,22 +62,26 @@ positions_within Is (Some ps) o shallow h = gives_within (Is ps) o (shallow ps) 
 tokens_depth : (text : List ℕ) (range : Option Range) (d : Data) → AreTokens text range d → depth d ≤ 126
 tokens_depth text range d h = omega (arith, tokens_shallow text range d h)
 
-document_within : (request : DocumentRequest) (d : Data) (takes : Bool) (document : Document) (o : Outcome) → IsOfDocument request d takes document o → IsWithin 126 o
-document_within Formatting d takes document o h = gives_within (IsFormatting document.text) o (formatting_depth document.text) h
-document_within RangeFormatting d takes document o h = range_within (IsFormattingWithin document.text) (asked_range d) o (lines_depth document.text) h
-document_within OnTypeFormatting d takes document o h = line_within (is_blank_at document.text (typed_range d)) document.text (typed_range d) o h
-document_within FoldingRange d takes document o h = gives_within (AreFoldings document.text) o (λ x f. omega (arith, foldings_depth document.text x f)) h
-document_within SelectionRange d takes document o h =
+document_within : (request : DocumentRequest) (d : Data) (document : Document) (o : Outcome) → IsOfDocument request d document o → IsWithin 126 o
+document_within Formatting d document o h = gives_within (IsFormatting document.text) o (formatting_depth document.text) h
+document_within RangeFormatting d document o h = range_within (IsFormattingWithin document.text) (asked_range d) o (lines_depth document.text) h
+document_within OnTypeFormatting d document o h = line_within (is_blank_at document.text (typed_range d)) document.text (typed_range d) o h
+document_within FoldingRange d document o h = gives_within (AreFoldings document.text) o (λ x f. omega (arith, foldings_depth document.text x f)) h
+document_within SelectionRange d document o h =
     positions_within (AreSelections document.text) (positions_of d) o (λ ps x f. omega (arith, selections_depth document.text ps x f)) h
-document_within SemanticTokens d takes document o h = gives_within (AreTokens document.text None) o (tokens_depth document.text None) h
-document_within SemanticTokensRange d takes document o h =
+document_within SemanticTokens d document o h = gives_within (AreTokens document.text None) o (tokens_depth document.text None) h
+document_within SemanticTokensRange d document o h =
     range_within (λ range. AreTokens document.text (Some range)) (asked_range d) o (λ range. tokens_depth document.text (Some range)) h
-document_within CodeAction d takes document o h =
-    gives_within (AreActions takes document.uri document.version document.text d) o (λ x f. omega (arith, answer_depth takes document.uri document.version document.text d x f)) h
 
-alone_within : (request : DocumentRequest) (d : Data) (takes : Bool) (document : Option Document) (o : Outcome) → IsAlone request d takes document o → IsWithin 126 o
-alone_within request d takes None o h = within 126 o _ h tt
-alone_within request d takes (Some document) o h = document_within request d takes document o h
+alone_within : (request : DocumentRequest) (d : Data) (document : Option Document) (o : Outcome) → IsAlone request d document o → IsWithin 126 o
+alone_within request d None o h = within 126 o _ h tt
+alone_within request d takes (Some document) o h = document_within request d document o h
+
+actions_within : (d : Data) (held : Held) (document : Option Document) (o : Outcome) → GivesActions d held document o → IsWithin 126 o
+actions_within d held None o h = within 126 o _ h tt
+actions_within d held (Some document) o h =
+    gives_within (AreDocumentActions d held document) o
+    (λ x f. omega (arith, answer_depth held.takes_document_changes document.uri document.version document.text d x f)) h
 
 named_within : (request : requests.Request) (d : Data) (held : Held) (view : View) (o : Outcome) → IsAboutNames request → depth d ≤ 127 → IsNamed request d held view o → IsWithin 126 o
 named_within request d held view o n m h = answer_within (question request d held view) _ o n m h
@@ -86,9 +89,10 @@ named_within request d held view o n m h = answer_within (question request d hel
 result_within : (request : requests.Request) (d : Data) (held : Held) (view : View) (o : Outcome) → depth d ≤ 127 → IsResult request d held view o → IsWithin 126 o
 result_within Initialize d held view o m h = within 126 o _ h (omega (arith, initialized_depth))
 result_within Shutdown d held view o m h = within 126 o _ h (omega arith)
-result_within (Alone request) d held view o m h = alone_within request d held.takes_document_changes (document_in d held.documents) o h
+result_within (Alone request) d held view o m h = alone_within request d (document_in d held.documents) o h
 result_within InlayHint d held view o m h =
     range_within (AreViewHints held.documents view) (named_range d) o (λ range x f. omega (arith, hints_depth (programs_of held.documents view view.file) view.file range x f)) h
+result_within CodeAction d held view o m h = actions_within d held (document_in d held.documents) o h
 result_within Unknown d held view o m h = within 126 o _ h tt
 result_within DocumentSymbol d held view o m h = named_within DocumentSymbol d held view o tt m h
 result_within WorkspaceSymbol d held view o m h = named_within WorkspaceSymbol d held view o tt m h

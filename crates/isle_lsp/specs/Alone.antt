@@ -3,11 +3,10 @@ use Rattle.std.specs.Prelude.{◌≡◌, ◌⊎◌, ℕ, List, Bool, true, false
 use Rattle.serde_json.specs.Data.{Data, null}
 use Rattle.isle_tidy_core.specs.Refused.{HasNoDocument}
 use Rattle.isle_tidy_core.specs.Tidied.{IsTidyTextOf}
-use Rattle.isle_lsp_actions.specs.Answers.{AreActions}
 use Rattle.isle_lsp_colours.specs.Coloured.{AreTokens}
 use Rattle.isle_lsp_files.specs.Documents.{Document}
 use Rattle.isle_lsp_protocol.specs.declared.machine.DocumentRequest.{DocumentRequest}
-use Rattle.isle_lsp_protocol.specs.declared.machine.DocumentRequest.TheVariants.{Formatting, RangeFormatting, OnTypeFormatting, FoldingRange, SelectionRange, SemanticTokens, SemanticTokensRange, CodeAction}
+use Rattle.isle_lsp_protocol.specs.declared.machine.DocumentRequest.TheVariants.{Formatting, RangeFormatting, OnTypeFormatting, FoldingRange, SelectionRange, SemanticTokens, SemanticTokensRange}
 use Rattle.isle_lsp_protocol.specs.declared.machine.ErrorCode.TheVariants.{InvalidParams}
 use Rattle.isle_lsp_protocol.specs.Parameters.{positions_of, range_of, typed_range}
 use Rattle.isle_lsp_protocol.specs.Replies.{Outcome, done, error_outcome}
@@ -45,18 +44,17 @@ FormatsUnless false text range o = GivesWithin (IsFormattingWithin text) range o
 abbrev pub IsLineFormatting : List ℕ → Option Range → Outcome → Type 0
 IsLineFormatting text range o = FormatsUnless (is_blank_at text range) text range o
 
--- the outcome of a request with this message about a document, where the client may take edits with versions
-abbrev pub IsOfDocument : DocumentRequest → (message : Data) → (takes : Bool) → Document → Outcome → Type 0
-IsOfDocument Formatting message takes document o = Gives (IsFormatting document.text) o
-IsOfDocument RangeFormatting message takes document o = GivesWithin (IsFormattingWithin document.text) (range_of message) o
-IsOfDocument OnTypeFormatting message takes document o = IsLineFormatting document.text (typed_range message) o
-IsOfDocument FoldingRange message takes document o = Gives (AreFoldings document.text) o
-IsOfDocument SelectionRange message takes document o = GivesAt (AreSelections document.text) (positions_of message) o
-IsOfDocument SemanticTokens message takes document o = Gives (AreTokens document.text None) o
-IsOfDocument SemanticTokensRange message takes document o = GivesWithin (λ range. AreTokens document.text (Some range)) (range_of message) o
-IsOfDocument CodeAction message takes document o = Gives (AreActions takes document.uri document.version document.text message) o
+-- the outcome of a request with this message about a document
+abbrev pub IsOfDocument : DocumentRequest → (message : Data) → Document → Outcome → Type 0
+IsOfDocument Formatting message document o = Gives (IsFormatting document.text) o
+IsOfDocument RangeFormatting message document o = GivesWithin (IsFormattingWithin document.text) (range_of message) o
+IsOfDocument OnTypeFormatting message document o = IsLineFormatting document.text (typed_range message) o
+IsOfDocument FoldingRange message document o = Gives (AreFoldings document.text) o
+IsOfDocument SelectionRange message document o = GivesAt (AreSelections document.text) (positions_of message) o
+IsOfDocument SemanticTokens message document o = Gives (AreTokens document.text None) o
+IsOfDocument SemanticTokensRange message document o = GivesWithin (λ range. AreTokens document.text (Some range)) (range_of message) o
 
 -- the same of the document that the message names, which may not be open
-abbrev pub IsAlone : DocumentRequest → (message : Data) → (takes : Bool) → Option Document → Outcome → Type 0
-IsAlone request message takes None o = o ≡ error_outcome InvalidParams
-IsAlone request message takes (Some document) o = IsOfDocument request message takes document o
+abbrev pub IsAlone : DocumentRequest → (message : Data) → Option Document → Outcome → Type 0
+IsAlone request message None o = o ≡ error_outcome InvalidParams
+IsAlone request message (Some document) o = IsOfDocument request message document o

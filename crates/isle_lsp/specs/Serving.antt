@@ -9,7 +9,7 @@ use Rattle.isle_lsp_protocol.specs.declared.machine.ErrorCode.TheVariants.{Inval
 use Rattle.isle_lsp_protocol.specs.declared.machine.Notification as notifications
 use Rattle.isle_lsp_protocol.specs.declared.machine.Notification.TheVariants.{Initialized, DidOpen, DidChange, DidClose, DidChangeWorkspaceFolders, DidChangeWatchedFiles}
 use Rattle.isle_lsp_protocol.specs.declared.machine.Request as requests
-use Rattle.isle_lsp_protocol.specs.declared.machine.Request.TheVariants.{Initialize, Shutdown, Document as Alone, InlayHint, PrepareRename, Rename, Unknown}
+use Rattle.isle_lsp_protocol.specs.declared.machine.Request.TheVariants.{Initialize, Shutdown, Document as Alone, InlayHint, CodeAction, PrepareRename, Rename, Unknown}
 use Rattle.isle_lsp_protocol.specs.declared.machine.State.{State}
 use Rattle.isle_lsp_protocol.specs.declared.machine.Action as actions
 use Rattle.isle_lsp_protocol.specs.declared.machine.Action.TheVariants.{Ignore, Answer, Reject, Handle}
@@ -20,7 +20,8 @@ use Rattle.isle_lsp_protocol.specs.Capabilities.{initialize_result}
 use Rattle.isle_lsp_protocol.specs.Watching.{watch_request}
 use Rattle.isle_lsp_features.specs.Answers as names
 use Rattle.isle_lsp_features.specs.Programs.{Question}
-use Rattle.isle_lsp.specs.Alone.{GivesWithin, IsAlone}
+use Rattle.isle_lsp_actions.specs.Answers.{AreActions}
+use Rattle.isle_lsp.specs.Alone.{Gives, GivesWithin, IsAlone}
 use Rattle.isle_lsp_diagnostics.specs.Hints.{AreHints}
 use Rattle.isle_lsp_diagnostics.specs.Published.{IsPublished}
 use Rattle.isle_lsp_text.specs.declared.positions.Range.{Range}
@@ -117,12 +118,21 @@ named_range d = option_and_then (λ uri. parameters.range_of d) (parameters.uri_
 abbrev pub AreViewHints : List Document → View → Range → Data → Type 0
 AreViewHints docs view range d = AreHints (programs_of docs view view.file) view.file range d
 
+-- the code actions in an open document
+abbrev pub AreDocumentActions : Data → Held → Document → Data → Type 0
+AreDocumentActions message held document d = AreActions held.takes_document_changes document.uri document.version document.text message d
+
+abbrev pub GivesActions : Data → Held → Option Document → Outcome → Type 0
+GivesActions message held None o = o ≡ error_outcome InvalidParams
+GivesActions message held (Some document) o = Gives (AreDocumentActions message held document) o
+
 -- the outcome of a request with these parameters, in this state
 abbrev pub IsResult : requests.Request → Data → Held → View → Outcome → Type 0
 IsResult Initialize d held view o = o ≡ done initialize_result
 IsResult Shutdown d held view o = o ≡ done null
-IsResult (Alone request) d held view o = IsAlone request d held.takes_document_changes (document_in d held.documents) o
+IsResult (Alone request) d held view o = IsAlone request d (document_in d held.documents) o
 IsResult InlayHint d held view o = GivesWithin (AreViewHints held.documents view) (named_range d) o
+IsResult CodeAction d held view o = GivesActions d held (document_in d held.documents) o
 IsResult Unknown d held view o = o ≡ error_outcome MethodNotFound
 IsResult request d held view o = IsNamed request d held view o
 

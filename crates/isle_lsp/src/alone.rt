@@ -13,7 +13,6 @@ ghost use Rattle.isle_lsp.specs.Alone.{IsLineFormatting, IsOfDocument};
 
 use crate::formatting::{formatting, formatting_within, is_blank_at};
 use isle_cli::failure::Failure;
-use isle_lsp_actions::code_actions;
 use isle_lsp_colours::semantic_tokens;
 use isle_lsp_files::documents::Document;
 use isle_lsp_protocol::machine::{DocumentRequest, ErrorCode};
@@ -30,18 +29,15 @@ pub fn outcome_alone<'a>(
     alloc: Global,
     request: DocumentRequest,
     message: &Value,
-    takes_document_changes: bool,
     document: Option<&Document>,
 ) -> Result<Outcome<'a>, Failure>
     ensures ok { IfOk result (λ outcome. IsAlone request (view message.now)
-        takes_document_changes (option_map (λ d. document_of d.now) document.entry)
+        (option_map (λ d. document_of d.now) document.entry)
         (outcome_of outcome)) }
     ensures err { IfErr result (λ failure. failure ≡ Memory) }
 {
     match document {
-        Some(document) => {
-            outcome_of_document(alloc, request, message, takes_document_changes, document)
-        }
+        Some(document) => outcome_of_document(alloc, request, message, document),
         None => Ok(error_outcome(ErrorCode::InvalidParams)),
     }
 }
@@ -50,11 +46,10 @@ fn outcome_of_document<'a>(
     alloc: Global,
     request: DocumentRequest,
     message: &Value,
-    takes_document_changes: bool,
     document: &Document,
 ) -> Result<Outcome<'a>, Failure>
     ensures ok { IfOk result (λ outcome. IsOfDocument request (view message.now)
-        takes_document_changes (document_of document.now) (outcome_of outcome)) }
+        (document_of document.now) (outcome_of outcome)) }
     ensures err { IfErr result (λ failure. failure ≡ Memory) }
 {
     let text = document.text.as_str();
@@ -68,15 +63,6 @@ fn outcome_of_document<'a>(
             Ok(Outcome::Done(semantic_tokens(alloc, text, None)?))
         }
         DocumentRequest::SemanticTokensRange => Ok(tokens_within(alloc, text, message)?),
-        DocumentRequest::CodeAction => {
-            let shown = isle_lsp_actions::Document {
-                uri: document.uri.as_str(),
-                version: document.version,
-                text,
-            };
-            let actions = code_actions(alloc, shown, message, takes_document_changes)?;
-            Ok(Outcome::Done(actions))
-        }
     }
 }
 

@@ -1,6 +1,7 @@
 //! `isle-lsp`: a language server for ISLE, on standard input and output.
 #![tactic(auto)]
 
+mod actions;
 mod alone;
 mod conversation;
 mod formatting;

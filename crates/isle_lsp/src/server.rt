@@ -19,6 +19,7 @@ ghost use Rattle.isle_lsp.specs.Serving.{document_in, documents_after, documents
 ghost use Rattle.isle_lsp.specs.Serving.{documents_after_notification, folders_after, takes_after};
 ghost use Rattle.isle_lsp.specs.Serving.{IsReplyUnless, watches_after};
 
+use crate::actions::actions_outcome;
 use crate::alone::outcome_alone;
 use crate::hints::hints_outcome;
 use crate::reports::handle;
@@ -423,15 +424,10 @@ fn outcome_in<'a>(
         Request::Shutdown => Ok(Outcome::Done(Value::Null)),
         Request::Document(request) => {
             let document = document_in(&server.documents, message);
-            outcome_alone(
-                alloc,
-                request,
-                message,
-                server.takes_document_changes,
-                document,
-            )
+            outcome_alone(alloc, request, message, document)
         }
         Request::InlayHint => hints_outcome(alloc, &server.documents, message, shown),
+        Request::CodeAction => actions_outcome(alloc, server, message),
         Request::Unknown => Ok(error_outcome(ErrorCode::MethodNotFound)),
         _ => name_outcome(alloc, server, gathered, request, message, shown),
     }
@@ -461,7 +457,7 @@ fn name_outcome<'a>(
 }
 
 /// The document that a message names, if it is open.
-fn document_in<'a>(documents: &'a [Document], message: &Value) -> Option<&'a Document>
+pub fn document_in<'a>(documents: &'a [Document], message: &Value) -> Option<&'a Document>
     ensures { option_map (λ document. document_of document.now) result
         ≡ document_in (view message.now) (map document_of documents.now) }
 {

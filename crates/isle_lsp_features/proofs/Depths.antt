@@ -16,7 +16,7 @@ use Rattle.isle_lsp_text.specs.declared.lists.ListSpan.{ListSpan}
 use Rattle.isle_lsp_text.specs.declared.positions.Range.{Range}
 use Rattle.isle_lsp_protocol.proofs.Depths.{AreShallow, IsAtMost, IsWithin, append_shallow, at_most, completion_depth, document_edits_depth, documented_depth, edits_depth, flat_map_shallow, hover_depth, item_at_most, items_shallow, location_depth, map_shallow, put_depth, range_depth, ranged_depth, symbol_depth, within, workspace_symbol_depth}
 use Rattle.isle_lsp_protocol.specs.declared.machine.Request as requests
-use Rattle.isle_lsp_protocol.specs.declared.machine.Request.TheVariants.{Definition as AskDefinition, Implementation, References, DocumentHighlight, DocumentSymbol, WorkspaceSymbol, Hover, SignatureHelp, Completion, ResolveCompletion, PrepareRename, Rename, InlayHint, PrepareCallHierarchy, IncomingCalls, OutgoingCalls, Initialize, Shutdown, Document, Unknown}
+use Rattle.isle_lsp_protocol.specs.declared.machine.Request.TheVariants.{Definition as AskDefinition, Implementation, References, DocumentHighlight, DocumentSymbol, WorkspaceSymbol, Hover, SignatureHelp, Completion, ResolveCompletion, PrepareRename, Rename, InlayHint, CodeAction, PrepareCallHierarchy, IncomingCalls, OutgoingCalls, Initialize, Shutdown, Document, Unknown}
 use Rattle.isle_lsp_protocol.specs.Items.{edits_data}
 use Rattle.isle_lsp_protocol.specs.Parameters.{item_of, new_name_of, query_of, wants_definitions}
 use Rattle.isle_lsp_protocol.specs.Replies.{Outcome, done, failed}
@@ -284,6 +284,7 @@ answer_of_within OutgoingCalls q program all a n m h =
     found_within OutgoingCalls program all (place_in q program) q.message a
     (λ x d f. calls.outgoing_depth (map source_in program) x.pos.file x.text (term_at x.pos all) (occurrence_at x.pos all) all d f) h
 answer_of_within InlayHint q program all a n m h = absurd n
+answer_of_within CodeAction q program all a n m h = absurd n
 answer_of_within Initialize q program all a n m h = absurd n
 answer_of_within Shutdown q program all a n m h = absurd n
 answer_of_within (Document alone) q program all a n m h = absurd n

@@ -5,8 +5,8 @@ use Rattle.serde_json.specs.Find.{get, as_str, as_number, as_object}
 use Rattle.serde_json.specs.Read.{read}
 use Rattle.isle_lsp_frames.specs.Mending.{mended}
 use Rattle.isle_lsp_protocol.specs.declared.machine.Request as requests
-use Rattle.isle_lsp_protocol.specs.declared.machine.Request.TheVariants.{Initialize, Shutdown, Document, DocumentSymbol, WorkspaceSymbol, Definition, Implementation, References, DocumentHighlight, Hover, SignatureHelp, Completion, ResolveCompletion, PrepareRename, Rename, InlayHint, PrepareCallHierarchy, IncomingCalls, OutgoingCalls, Unknown}
-use Rattle.isle_lsp_protocol.specs.declared.machine.DocumentRequest.TheVariants.{Formatting, RangeFormatting, OnTypeFormatting, FoldingRange, SelectionRange, SemanticTokens, SemanticTokensRange, CodeAction}
+use Rattle.isle_lsp_protocol.specs.declared.machine.Request.TheVariants.{Initialize, Shutdown, Document, DocumentSymbol, WorkspaceSymbol, Definition, Implementation, References, DocumentHighlight, Hover, SignatureHelp, Completion, ResolveCompletion, PrepareRename, Rename, InlayHint, CodeAction, PrepareCallHierarchy, IncomingCalls, OutgoingCalls, Unknown}
+use Rattle.isle_lsp_protocol.specs.declared.machine.DocumentRequest.TheVariants.{Formatting, RangeFormatting, OnTypeFormatting, FoldingRange, SelectionRange, SemanticTokens, SemanticTokensRange}
 use Rattle.isle_lsp_protocol.specs.declared.machine.Notification as notifications
 use Rattle.isle_lsp_protocol.specs.declared.machine.Notification.TheVariants.{Initialized, Exit, DidOpen, DidChange, DidClose, DidChangeWorkspaceFolders, DidChangeWatchedFiles, Other}
 use Rattle.isle_lsp_protocol.specs.declared.machine.Message as messages
@@ -42,17 +42,17 @@ document_request_of name =
     else (if bytes_eq name (codes "textDocument/selectionRange") then Document SelectionRange
     else (if bytes_eq name (codes "textDocument/semanticTokens/full") then Document SemanticTokens
     else (if bytes_eq name (codes "textDocument/semanticTokens/range") then Document SemanticTokensRange
-    else (if bytes_eq name (codes "textDocument/codeAction") then Document CodeAction
-    else Unknown)))))))
+    else Unknown))))))
 
--- a request about calls or the types of variables
-abbrev pub call_request_of : List ℕ → requests.Request
-call_request_of name =
+-- a request about types of variables, code actions or calls
+abbrev pub program_request_of : List ℕ → requests.Request
+program_request_of name =
     if bytes_eq name (codes "textDocument/inlayHint") then InlayHint
+    else (if bytes_eq name (codes "textDocument/codeAction") then CodeAction
     else (if bytes_eq name (codes "textDocument/prepareCallHierarchy") then PrepareCallHierarchy
     else (if bytes_eq name (codes "callHierarchy/incomingCalls") then IncomingCalls
     else (if bytes_eq name (codes "callHierarchy/outgoingCalls") then OutgoingCalls
-    else document_request_of name)))
+    else document_request_of name))))
 
 abbrev pub request_of : List ℕ → requests.Request
 request_of name =
@@ -70,7 +70,7 @@ request_of name =
     else (if bytes_eq name (codes "completionItem/resolve") then ResolveCompletion
     else (if bytes_eq name (codes "textDocument/prepareRename") then PrepareRename
     else (if bytes_eq name (codes "textDocument/rename") then Rename
-    else call_request_of name)))))))))))))
+    else program_request_of name)))))))))))))
 
 abbrev pub named_notification : Option (List ℕ) → messages.Message
 named_notification None = Invalid

@@ -4,7 +4,7 @@ ghost use Rattle.std.specs.Prelude.{◌≡◌, IfErr, IfOk, option_map};
 ghost use Rattle.serde_json.specs.View.{view};
 ghost use Rattle.isle_cli.specs.declared.failure.Failure.TheVariants.{Memory};
 ghost use Rattle.isle_lsp_protocol.specs.Decoding.{Decodes, is_id, message_in, message_of};
-ghost use Rattle.isle_lsp_protocol.specs.Decoding.{call_request_of, document_request_of};
+ghost use Rattle.isle_lsp_protocol.specs.Decoding.{document_request_of, program_request_of};
 ghost use Rattle.isle_lsp_protocol.specs.Decoding.{notification_in, notification_of, request_in};
 ghost use Rattle.isle_lsp_protocol.specs.Decoding.{request_of};
 
@@ -117,17 +117,18 @@ fn request_of(name: &str) -> Request
         "completionItem/resolve" => Request::ResolveCompletion,
         "textDocument/prepareRename" => Request::PrepareRename,
         "textDocument/rename" => Request::Rename,
-        _ => call_request_of(name),
+        _ => program_request_of(name),
     }
 }
 
-/// The request about calls or the types of variables with this method, or else the one about a
-/// document alone.
-fn call_request_of(name: &str) -> Request
-    ensures { result ≡ call_request_of name.now }
+/// The request about types of variables, code actions or calls with this method, or else the one
+/// about a document alone.
+fn program_request_of(name: &str) -> Request
+    ensures { result ≡ program_request_of name.now }
 {
     match name {
         "textDocument/inlayHint" => Request::InlayHint,
+        "textDocument/codeAction" => Request::CodeAction,
         "textDocument/prepareCallHierarchy" => Request::PrepareCallHierarchy,
         "callHierarchy/incomingCalls" => Request::IncomingCalls,
         "callHierarchy/outgoingCalls" => Request::OutgoingCalls,
@@ -149,7 +150,6 @@ fn document_request_of(name: &str) -> Request
         "textDocument/semanticTokens/range" => {
             Request::Document(DocumentRequest::SemanticTokensRange)
         }
-        "textDocument/codeAction" => Request::Document(DocumentRequest::CodeAction),
         _ => Request::Unknown,
     }
 }

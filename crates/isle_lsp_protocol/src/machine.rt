@@ -55,6 +55,8 @@ pub enum Request {
     Rename,
     /// The types of variables, shown beside them.
     InlayHint,
+    /// The edits that take care of a finding, or that expand an extractor.
+    CodeAction,
     /// The term whose calls are asked about.
     PrepareCallHierarchy,
     /// The calls of a term.
@@ -83,8 +85,6 @@ pub enum DocumentRequest {
     SemanticTokens,
     /// The tokens of a part of the document, with their types.
     SemanticTokensRange,
-    /// The edits that take care of a finding.
-    CodeAction,
 }
 
 /// The method of a notification.
