@@ -1,4 +1,4 @@
-"""The cases of editors/sessions about the types of variables that are shown behind their first mentions."""
+"""The cases of editors/sessions about the types of variables that are shown, behind their first mentions and in hovers."""
 
 from program_cases import ARM_FILE, X64_FILE
 from session_cases import Case
@@ -110,5 +110,120 @@ HINTED = [
         "hints: behind other letters",
         {"a.isle": DECLARED + "(rule (lower (; é😀 ;) (Op.One é1)) é1)\r\n(rule (lower (Op.One\r\n  x)) x)\n"},
         [("open", "a.isle"), ("hints", "a.isle", "1:1-99:1", "15:34: T", "17:4: T")],
+    ),
+]
+
+
+def block(shown):
+    """A block of Markdown."""
+    return f"```isle\n{shown}\n```"
+
+
+def typed(variable, shown):
+    """A variable with its type, and then what else is shown of it."""
+    return block(variable) + "\n\n" + block(shown)
+
+
+LETS = """; x is hidden
+(rule (lower (Op.One x)) ; not here
+  (if-let y (let ((x U (make x)) (z U x)) z))
+  (let ((v T (both x x)) (x T (both v v))) (both v x)))
+"""
+
+HOVERED = [
+    Case(
+        "hover: the type of a variable, where it is bound and where it is used",
+        {"a.isle": DECLARED, "b.isle": RULES},
+        [
+            ("open", "b.isle"),
+            *[("hover", "b.isle", f"p#{number}", typed("p : T", "(both p q @ (both r _))")) for number in (1, 2, 3)],
+            ("hover", "b.isle", "q", typed("q : T", "(both p q @ (both r _))")),
+            ("hover", "b.isle", "q#2", typed("q : T", "(both p q @ (both r _))")),
+            ("hover", "b.isle", "r", typed("r : T", "(both r _)")),
+            ("hover", "b.isle", "v", typed("v : U", "(and u v)")),
+            ("hover", "b.isle", "w", typed("w : U", "  (if-let w (make q))")),
+            ("hover", "b.isle", "s#2", typed("s : T", "(both s $NONE)")),
+            ("hover", "b.isle", "x#3", typed("x : T", "(Op.One x)")),
+            ("hover", "b.isle", "y#2", typed("y : T", "(both y y)")),
+            ("hover", "b.isle", "z", typed("z : T", "(Op.One z)")),
+        ],
+    ),
+    Case(
+        "hover: no type of what is no variable, or of one without a type",
+        {"a.isle": DECLARED, "b.isle": RULES},
+        [
+            ("open", "b.isle"),
+            ("hover", "b.isle", "both", block("(decl both (T T) T)")),
+            ("hover", "b.isle", "T", block("(type T (primitive T))")),
+            ("hover", "b.isle", "Op.One", block("(One (z T))")),
+            ("hover", "b.isle", "b", block("(nothing b)")),
+            ("hover", "b.isle", "nothing", None),
+            ("hover", "b.isle", "rule", None),
+            ("hover", "a.isle", "x#2", block("(one_of x)")),
+        ],
+    ),
+    Case(
+        "hover: a variable that a `let` hides",
+        {"a.isle": DECLARED, "b.isle": LETS},
+        [
+            ("open", "b.isle"),
+            ("hover", "b.isle", "x#2", typed("x : T", "(Op.One x)")),
+            ("hover", "b.isle", "x#3", block("(x U (make x))")),
+            ("hover", "b.isle", "x#4", typed("x : T", "(Op.One x)")),
+            ("hover", "b.isle", "x#5", block("(x U (make x))")),
+            ("hover", "b.isle", "z#2", block("(z U x)")),
+            ("hover", "b.isle", "y", typed("y : U", "  (if-let y (let ((x U (make x)) (z U x)) z))")),
+            ("hover", "b.isle", "x#7", typed("x : T", "(Op.One x)")),
+            ("hover", "b.isle", "x#8", block("(x T (both v v))")),
+            ("hover", "b.isle", "v#3", block("(v T (both x x))")),
+            ("hover", "b.isle", "x#9", block("(x T (both v v))")),
+        ],
+    ),
+    Case(
+        "hover: what is declared in a closed file changes",
+        {"a.isle": DECLARED, "b.isle": "(rule (lower (Op.One x)) x)\n"},
+        [
+            ("hover", "b.isle", "x", typed("x : T", "(Op.One x)")),
+            ("open", "b.isle"),
+            ("write", "a.isle", DECLARED.replace("(z T)", "(z U)")),
+            ("hover", "b.isle", "x#2", typed("x : U", "(Op.One x)")),
+            ("remove", "a.isle"),
+            ("hover", "b.isle", "x#2", block("(Op.One x)")),
+        ],
+    ),
+    Case(
+        "hover: no type in a text that does not parse, or while an extractor uses itself",
+        {"a.isle": DECLARED, "b.isle": "(rule (lower (Op.One x)) x)\n"},
+        [
+            ("open", "b.isle"),
+            ("whole", "b.isle", "(rule (lower (Op.One x)) x)\n(rule"),
+            ("hover", "b.isle", "x", block("(Op.One x)")),
+            ("whole", "b.isle", "(rule (lower (Op.One x)) x)\n"),
+            ("hover", "b.isle", "x", typed("x : T", "(Op.One x)")),
+            ("open", "a.isle", DECLARED.replace("(Op.One x))", "(one_of (and x x)))")),
+            ("hover", "b.isle", "x", block("(Op.One x)")),
+        ],
+    ),
+    Case(
+        "hover: a file of two programs has the types of the first, and a file of none has none",
+        {"prelude.isle": SHARED, X64_FILE: ONLY.replace("(T)", "(U)"), ARM_FILE: ONLY, "other.isle": SHARED + ONLY, "isle.toml": TOML},
+        [
+            ("open", "prelude.isle"),
+            ("hover", "prelude.isle", "x", typed("x : U", "(only x)")),
+            ("write", X64_FILE, ONLY),
+            ("hover", "prelude.isle", "x", typed("x : T", "(only x)")),
+            ("open", "other.isle"),
+            ("hover", "other.isle", "x", block("(only x)")),
+        ],
+    ),
+    Case(
+        "hover: behind other letters",
+        {"a.isle": DECLARED + "(rule (lower (; é😀 ;) (Op.One é1)) é1)\r\n(rule (lower (Op.One\r\n  x)) x)\n"},
+        [
+            ("open", "a.isle"),
+            ("hover", "a.isle", "é1", typed("é1 : T", "(Op.One é1)")),
+            ("hover", "a.isle", "é1#2", typed("é1 : T", "(Op.One é1)")),
+            ("hover", "a.isle", "x#4", typed("x : T", "(Op.One\r\n  x)")),
+        ],
     ),
 ]

@@ -504,6 +504,18 @@ class Reading:
     def range(self, mark):
         return self.lines.range(mark.start, mark.end)
 
+    def list_around(self, offset):
+        """From where to where the innermost list around a place is."""
+        opened = []
+        for it in tokens_of(self.text)[0]:
+            if it.kind == "(":
+                opened.append(it.start)
+            elif it.kind == ")":
+                start = opened.pop()
+                if start < offset < it.end:
+                    return start, it.end
+        return None
+
 
 class Tree(NamedTuple):
     """A list of a text, as far as it is written: tokens and lists."""

@@ -1,4 +1,4 @@
-"""An independent reading of the types of variables: what a rule's patterns bind, as upstream's compiler types them."""
+"""An independent reading of the types of variables: what a rule's patterns bind, as upstream's compiler types them, and where it is mentioned."""
 
 import functools
 import sys
@@ -111,6 +111,12 @@ class Rule(NamedTuple):
     left: Node
     conditions: list  # pairs of a pattern and an expression
     right: Node
+
+    def patterns(self):
+        return [self.left, *(left for left, _ in self.conditions)]
+
+    def expressions(self):
+        return [*(value for _, value in self.conditions), self.right]
 
 
 def rule_of(items):
@@ -303,11 +309,22 @@ class Typing:
         found = []
         for rule in [rule for at, rule in self.rules if at == number]:
             types, seen = self.variables(rule), set()
-            for it in [it for part in (rule.left, *(left for left, _ in rule.conditions)) for it in mentions(part)]:
+            for it in [it for part in rule.patterns() for it in mentions(part)]:
                 if it.name not in seen and it.name in types:
                     found.append((it.end, types[it.name]))
                 seen.add(it.name)
         return found
+
+    def typed_at(self, number, end):
+        """The variable of a rule in the text of a number that is mentioned up to an offset, with its type, as `x : T`; None if it has none."""
+        if self.is_endless():
+            return None
+        for rule in [rule for at, rule in self.rules if at == number]:
+            found = [it for part in rule.patterns() for it in mentions(part)] + [it for part in rule.expressions() for it in uses(part)]
+            for it in [it for it in found if it.end == end]:
+                ty = self.variables(rule).get(it.name)
+                return f"{it.name} : {ty}" if ty else None
+        return None
 
 
 def tokens_between(text, begin, end):
@@ -323,6 +340,17 @@ def heads(it):
 def mentions(it):
     """The variables of a pattern, in the order of the text."""
     return [*([it] if it.kind in ("var", "bind") else []), *(found for part in it.parts for found in mentions(part))]
+
+
+def uses(it, hidden=()):
+    """The variables that an expression uses and does not bind itself."""
+    if it.kind == "var":
+        return [it] if it.name not in hidden else []
+    found = []
+    for name, _, value in it.name if it.kind == "let" else ():
+        found += uses(value, hidden)
+        hidden = (*hidden, name)
+    return found + [one for part in it.parts for one in uses(part, hidden)]
 
 
 @functools.lru_cache(maxsize=16)

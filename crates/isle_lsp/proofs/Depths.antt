@@ -9,10 +9,10 @@ use Rattle.isle_lsp_colours.specs.Coloured.{AreTokens}
 use Rattle.isle_lsp_files.specs.Disks.{View}
 use Rattle.isle_lsp_files.specs.Documents.{Document}
 use Rattle.isle_lsp_files.specs.Texts.{programs_of}
-use Rattle.isle_lsp_diagnostics.proofs.HintDepths.{hints_depth}
+use Rattle.isle_lsp_diagnostics.proofs.HintDepths.{hints_depth, typed_depth}
 use Rattle.isle_lsp_protocol.specs.declared.machine.DocumentRequest.{DocumentRequest}
 use Rattle.isle_lsp_protocol.specs.declared.machine.DocumentRequest.TheVariants.{Formatting, RangeFormatting, OnTypeFormatting, FoldingRange, SelectionRange, SemanticTokens, SemanticTokensRange}
-use Rattle.isle_lsp_protocol.specs.Parameters.{positions_of, range_of as asked_range, typed_range}
+use Rattle.isle_lsp_protocol.specs.Parameters.{position_of, positions_of, range_of as asked_range, typed_range}
 use Rattle.isle_lsp_ranges.proofs.Depths.{foldings_depth, selections_depth}
 use Rattle.isle_lsp_ranges.proofs.Depths as ranges
 use Rattle.isle_lsp_ranges.specs.Foldings.{AreFoldings}
@@ -20,7 +20,7 @@ use Rattle.isle_lsp_ranges.specs.Selections.{AreSelections}
 use Rattle.isle_lsp_text.specs.declared.positions.Position.{Position}
 use Rattle.isle_lsp_text.specs.declared.positions.Range.{Range}
 use Rattle.isle_lsp_protocol.specs.Decoding.{Decodes}
-use Rattle.isle_lsp_protocol.specs.Replies.{IsTextOf, Outcome, error_response, failed, reply, reply_id}
+use Rattle.isle_lsp_protocol.specs.Replies.{IsTextOf, Outcome, done, error_response, failed, reply, reply_id}
 use Rattle.isle_lsp_protocol.specs.declared.machine.ErrorCode.{ErrorCode}
 use Rattle.isle_lsp_protocol.specs.declared.machine.Request as requests
 use Rattle.isle_lsp_protocol.specs.declared.machine.Request.TheVariants.{Initialize, Shutdown, Document as Alone, DocumentSymbol, WorkspaceSymbol, Definition, Implementation, References, DocumentHighlight, Hover, SignatureHelp, Completion, ResolveCompletion, PrepareRename, Rename, InlayHint, CodeAction, PrepareCallHierarchy, IncomingCalls, OutgoingCalls, Unknown}
@@ -28,7 +28,7 @@ use Rattle.isle_lsp_protocol.proofs.Depths.{IsWithin, at_most, initialized_depth
 use Rattle.isle_lsp_features.proofs.Depths.{IsAboutNames, answer_within}
 use Rattle.isle_lsp.specs.Alone.{FormatsUnless, Gives, GivesAt, GivesWithin, IsAlone, IsFormattingWithin, IsOfDocument}
 use Rattle.isle_lsp.specs.Formatted.{IsFormatting, is_blank_at}
-use Rattle.isle_lsp.specs.Serving.{AreDocumentActions, AreViewHints, GivesActions, Held, IsNamed, IsResult, IsResultOf, IsShallow, document_in, named_range, question}
+use Rattle.isle_lsp.specs.Serving.{AreDocumentActions, AreViewHints, GivesActions, Held, IsHover, IsNamed, IsResult, IsResultOf, IsShallow, IsTyped, document_in, named_range, question}
 
 -- what was decoded nests no deeper than JSON is read
 pub decoded : (body : List ℕ) (json : Option Data) → Decodes body json → IsShallow json
@@ -75,7 +75,7 @@ document_within SemanticTokensRange d document o h =
 
 alone_within : (request : DocumentRequest) (d : Data) (document : Option Document) (o : Outcome) → IsAlone request d document o → IsWithin 126 o
 alone_within request d None o h = within 126 o _ h tt
-alone_within request d takes (Some document) o h = document_within request d document o h
+alone_within request d (Some document) o h = document_within request d document o h
 
 actions_within : (d : Data) (held : Held) (document : Option Document) (o : Outcome) → GivesActions d held document o → IsWithin 126 o
 actions_within d held None o h = within 126 o _ h tt
@@ -85,6 +85,14 @@ actions_within d held (Some document) o h =
 
 named_within : (request : requests.Request) (d : Data) (held : Held) (view : View) (o : Outcome) → IsAboutNames request → depth d ≤ 127 → IsNamed request d held view o → IsWithin 126 o
 named_within request d held view o n m h = answer_within (question request d held view) _ o n m h
+
+typed_within : (d : Data) (held : Held) (view : View) (plain o : Outcome) → IsWithin 126 plain → IsTyped d held view plain o → IsWithin 126 o
+typed_within d held view (done hover) o w (typed, is_typed, is) =
+    within 126 o _ is (typed_depth 126 (programs_of held.documents view view.file) view.file (position_of d) hover typed (omega arith) w is_typed)
+typed_within d held view (failed c reason) o w is = within 126 o _ is tt
+
+hover_within : (d : Data) (held : Held) (view : View) (o : Outcome) → depth d ≤ 127 → IsHover d held view o → IsWithin 126 o
+hover_within d held view o m (plain, named, typed) = typed_within d held view plain o (named_within Hover d held view plain tt m named) typed
 
 result_within : (request : requests.Request) (d : Data) (held : Held) (view : View) (o : Outcome) → depth d ≤ 127 → IsResult request d held view o → IsWithin 126 o
 result_within Initialize d held view o m h = within 126 o _ h (omega (arith, initialized_depth))
@@ -100,7 +108,7 @@ result_within Definition d held view o m h = named_within Definition d held view
 result_within Implementation d held view o m h = named_within Implementation d held view o tt m h
 result_within References d held view o m h = named_within References d held view o tt m h
 result_within DocumentHighlight d held view o m h = named_within DocumentHighlight d held view o tt m h
-result_within Hover d held view o m h = named_within Hover d held view o tt m h
+result_within Hover d held view o m h = hover_within d held view o m h
 result_within SignatureHelp d held view o m h = named_within SignatureHelp d held view o tt m h
 result_within Completion d held view o m h = named_within Completion d held view o tt m h
 result_within ResolveCompletion d held view o m h = named_within ResolveCompletion d held view o tt m h

@@ -1,4 +1,5 @@
 pub mod Depths
+pub mod Hovers
 pub mod Results
 pub mod Reporting
 pub mod Talks

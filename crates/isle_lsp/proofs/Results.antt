@@ -10,28 +10,28 @@ use Rattle.isle_lsp_protocol.specs.declared.machine.ErrorCode.TheVariants.{Reque
 use Rattle.isle_lsp_files.specs.Disks.{Asked, View}
 use Rattle.isle_lsp.specs.Serving.{Held, IsNamed, IsReplyUnless, IsResult, asked_for, mistake_for}
 
-pub named_result : (request : requests.Request) (d : Data) (held : Held) (view : View) (o : Outcome) → (request ≡ Initialize → ⊥) → (request ≡ Shutdown → ⊥) → ((alone : DocumentRequest) → request ≡ Document alone → ⊥) → (request ≡ InlayHint → ⊥) → (request ≡ CodeAction → ⊥) → (request ≡ Unknown → ⊥) → IsNamed request d held view o → IsResult request d held view o
-named_result Initialize d held view o a b c f g e n = absurd (a refl)
-named_result Shutdown d held view o a b c f g e n = absurd (b refl)
-named_result (Document alone) d held view o a b c f g e n = absurd (c alone refl)
-named_result InlayHint d held view o a b c f g e n = absurd (f refl)
-named_result CodeAction d held view o a b c f g e n = absurd (g refl)
-named_result Unknown d held view o a b c f g e n = absurd (e refl)
-named_result DocumentSymbol d held view o a b c f g e n = n
-named_result WorkspaceSymbol d held view o a b c f g e n = n
-named_result Definition d held view o a b c f g e n = n
-named_result Implementation d held view o a b c f g e n = n
-named_result References d held view o a b c f g e n = n
-named_result DocumentHighlight d held view o a b c f g e n = n
-named_result Hover d held view o a b c f g e n = n
-named_result SignatureHelp d held view o a b c f g e n = n
-named_result Completion d held view o a b c f g e n = n
-named_result ResolveCompletion d held view o a b c f g e n = n
-named_result PrepareRename d held view o a b c f g e n = n
-named_result Rename d held view o a b c f g e n = n
-named_result PrepareCallHierarchy d held view o a b c f g e n = n
-named_result IncomingCalls d held view o a b c f g e n = n
-named_result OutgoingCalls d held view o a b c f g e n = n
+pub named_result : (request : requests.Request) (d : Data) (held : Held) (view : View) (o : Outcome) → (request ≡ Initialize → ⊥) → (request ≡ Shutdown → ⊥) → ((alone : DocumentRequest) → request ≡ Document alone → ⊥) → (request ≡ InlayHint → ⊥) → (request ≡ CodeAction → ⊥) → (request ≡ Hover → ⊥) → (request ≡ Unknown → ⊥) → IsNamed request d held view o → IsResult request d held view o
+named_result Initialize d held view o a b c f g i e n = absurd (a refl)
+named_result Shutdown d held view o a b c f g i e n = absurd (b refl)
+named_result (Document alone) d held view o a b c f g i e n = absurd (c alone refl)
+named_result InlayHint d held view o a b c f g i e n = absurd (f refl)
+named_result CodeAction d held view o a b c f g i e n = absurd (g refl)
+named_result Unknown d held view o a b c f g i e n = absurd (e refl)
+named_result DocumentSymbol d held view o a b c f g i e n = n
+named_result WorkspaceSymbol d held view o a b c f g i e n = n
+named_result Definition d held view o a b c f g i e n = n
+named_result Implementation d held view o a b c f g i e n = n
+named_result References d held view o a b c f g i e n = n
+named_result DocumentHighlight d held view o a b c f g i e n = n
+named_result Hover d held view o a b c f g i e n = absurd (i refl)
+named_result SignatureHelp d held view o a b c f g i e n = n
+named_result Completion d held view o a b c f g i e n = n
+named_result ResolveCompletion d held view o a b c f g i e n = n
+named_result PrepareRename d held view o a b c f g i e n = n
+named_result Rename d held view o a b c f g i e n = n
+named_result PrepareCallHierarchy d held view o a b c f g i e n = n
+named_result IncomingCalls d held view o a b c f g i e n = n
+named_result OutgoingCalls d held view o a b c f g i e n = n
 
 -- what they ask of the disk
 pub named_asks : (request : requests.Request) (question : Asked) → (request ≡ Initialize → ⊥) → (request ≡ Shutdown → ⊥) → ((alone : DocumentRequest) → request ≡ Document alone → ⊥) → (request ≡ Unknown → ⊥) → asked_for request question ≡ Some question

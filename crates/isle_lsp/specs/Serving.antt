@@ -9,13 +9,13 @@ use Rattle.isle_lsp_protocol.specs.declared.machine.ErrorCode.TheVariants.{Inval
 use Rattle.isle_lsp_protocol.specs.declared.machine.Notification as notifications
 use Rattle.isle_lsp_protocol.specs.declared.machine.Notification.TheVariants.{Initialized, DidOpen, DidChange, DidClose, DidChangeWorkspaceFolders, DidChangeWatchedFiles}
 use Rattle.isle_lsp_protocol.specs.declared.machine.Request as requests
-use Rattle.isle_lsp_protocol.specs.declared.machine.Request.TheVariants.{Initialize, Shutdown, Document as Alone, InlayHint, CodeAction, PrepareRename, Rename, Unknown}
+use Rattle.isle_lsp_protocol.specs.declared.machine.Request.TheVariants.{Initialize, Shutdown, Document as Alone, Hover, InlayHint, CodeAction, PrepareRename, Rename, Unknown}
 use Rattle.isle_lsp_protocol.specs.declared.machine.State.{State}
 use Rattle.isle_lsp_protocol.specs.declared.machine.Action as actions
 use Rattle.isle_lsp_protocol.specs.declared.machine.Action.TheVariants.{Ignore, Answer, Reject, Handle}
 use Rattle.isle_lsp_protocol.specs.Parameters as parameters
 use Rattle.isle_lsp_protocol.specs.Replies as replies
-use Rattle.isle_lsp_protocol.specs.Replies.{Outcome, done, error_outcome, reason_of, reply, reply_id}
+use Rattle.isle_lsp_protocol.specs.Replies.{Outcome, done, error_outcome, failed, reason_of, reply, reply_id}
 use Rattle.isle_lsp_protocol.specs.Capabilities.{initialize_result}
 use Rattle.isle_lsp_protocol.specs.Watching.{watch_request}
 use Rattle.isle_lsp_features.specs.Answers as names
@@ -23,6 +23,7 @@ use Rattle.isle_lsp_features.specs.Programs.{Question}
 use Rattle.isle_lsp_actions.specs.Answers.{AreActions}
 use Rattle.isle_lsp.specs.Alone.{Gives, GivesWithin, IsAlone}
 use Rattle.isle_lsp_diagnostics.specs.Hints.{AreHints}
+use Rattle.isle_lsp_diagnostics.specs.Hovers.{IsTypedHover}
 use Rattle.isle_lsp_diagnostics.specs.Published.{IsPublished}
 use Rattle.isle_lsp_text.specs.declared.positions.Range.{Range}
 use Rattle.isle_lsp.specs.declared.server.Server.{Server}
@@ -110,6 +111,16 @@ question request d held view =
 abbrev pub IsNamed : requests.Request → Data → Held → View → Outcome → Type 0
 IsNamed request d held view o = names.IsAnswer (question request d held view) (program_of (is_some (parameters.uri_of d)) held.documents view) o
 
+-- the outcome of a hover, from that of a request about names: with the type of a variable, by the programs that have the view's file
+abbrev pub IsTyped : Data → Held → View → (plain o : Outcome) → Type 0
+IsTyped d held view (done hover) o =
+    (typed : Data) × IsTypedHover (programs_of held.documents view view.file) view.file (parameters.position_of d) hover typed × (o ≡ done typed)
+IsTyped d held view (failed code reason) o = o ≡ failed code reason
+
+-- the outcome of a hover
+abbrev pub IsHover : Data → Held → View → Outcome → Type 0
+IsHover d held view o = (plain : Outcome) × IsNamed Hover d held view plain × IsTyped d held view plain o
+
 -- the range in a message that names a document
 abbrev pub named_range : Data → Option Range
 named_range d = option_and_then (λ uri. parameters.range_of d) (parameters.uri_of d)
@@ -131,6 +142,7 @@ abbrev pub IsResult : requests.Request → Data → Held → View → Outcome �
 IsResult Initialize d held view o = o ≡ done initialize_result
 IsResult Shutdown d held view o = o ≡ done null
 IsResult (Alone request) d held view o = IsAlone request d (document_in d held.documents) o
+IsResult Hover d held view o = IsHover d held view o
 IsResult InlayHint d held view o = GivesWithin (AreViewHints held.documents view) (named_range d) o
 IsResult CodeAction d held view o = GivesActions d held (document_in d held.documents) o
 IsResult Unknown d held view o = o ≡ error_outcome MethodNotFound

@@ -6,6 +6,7 @@ mod alone;
 mod conversation;
 mod formatting;
 mod hints;
+mod names;
 mod program;
 mod reports;
 mod server;

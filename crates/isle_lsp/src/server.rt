@@ -14,7 +14,7 @@ ghost use Rattle.isle_lsp_protocol.specs.Parameters as parameters_of;
 ghost use Rattle.isle_lsp_protocol.specs.Replies as replies_of;
 ghost use Rattle.isle_lsp.specs.Conversations.{nothing};
 ghost use Rattle.isle_lsp.specs.Serving as serving;
-ghost use Rattle.isle_lsp.specs.Serving.{IsNamed, IsReply, IsResult, IsResultOf, IsShallow, Sends};
+ghost use Rattle.isle_lsp.specs.Serving.{IsReply, IsResult, IsResultOf, IsShallow, Sends};
 ghost use Rattle.isle_lsp.specs.Serving.{document_in, documents_after, documents_noted, held_of};
 ghost use Rattle.isle_lsp.specs.Serving.{documents_after_notification, folders_after, takes_after};
 ghost use Rattle.isle_lsp.specs.Serving.{IsReplyUnless, watches_after};
@@ -22,13 +22,13 @@ ghost use Rattle.isle_lsp.specs.Serving.{IsReplyUnless, watches_after};
 use crate::actions::actions_outcome;
 use crate::alone::outcome_alone;
 use crate::hints::hints_outcome;
+use crate::names::{hover_outcome, name_outcome};
 use crate::reports::handle;
 use isle_cli::failure::Failure;
 use isle_lsp_diagnostics::Checks;
-use isle_lsp_features::{Gathered, Question};
+use isle_lsp_features::Gathered;
 use isle_lsp_files::disk::View;
 use isle_lsp_files::documents::{Document, close, document_at, open};
-use isle_lsp_files::texts::program_of;
 use isle_lsp_protocol::capabilities::initialize_result;
 use isle_lsp_protocol::machine::{Action, ErrorCode, Notification, Request, State};
 use isle_lsp_protocol::parameters::{
@@ -426,34 +426,12 @@ fn outcome_in<'a>(
             let document = document_in(&server.documents, message);
             outcome_alone(alloc, request, message, document)
         }
+        Request::Hover => hover_outcome(alloc, server, gathered, message, shown),
         Request::InlayHint => hints_outcome(alloc, &server.documents, message, shown),
         Request::CodeAction => actions_outcome(alloc, server, message),
         Request::Unknown => Ok(error_outcome(ErrorCode::MethodNotFound)),
         _ => name_outcome(alloc, server, gathered, request, message, shown),
     }
-}
-
-/// The outcome of a request about names.
-fn name_outcome<'a>(
-    alloc: Global,
-    server: &'a Server,
-    gathered: &mut Gathered,
-    request: Request,
-    message: &Value,
-    shown: &'a View,
-) -> Result<Outcome<'a>, Failure>
-    ensures ok { IfOk result (λ outcome. IsNamed request (view message.now)
-        (held_of server.now) (view_of shown.now) (outcome_of outcome)) }
-    ensures err { IfErr result (λ failure. failure ≡ Memory) }
-{
-    let program = program_of(alloc, &server.documents, shown, uri_of(message).is_some())?;
-    let question = Question {
-        request,
-        message,
-        file: shown.file.as_str(),
-        takes_document_changes: server.takes_document_changes,
-    };
-    isle_lsp_features::answer(alloc, gathered, &program, question)
 }
 
 /// The document that a message names, if it is open.

@@ -1,42 +1,35 @@
 //! The types of a file's variables, each shown behind the variable's first mention.
 
-ghost use Rattle.std.specs.Prelude.{◌≡◌, ◌++◌, IfErr, IfOk, OnOk, codes, false, map, option_map};
-ghost use Rattle.std.specs.Prelude.{string_bytes};
+ghost use Rattle.std.specs.Prelude.{◌≡◌, ◌++◌, IfErr, IfOk, OnOk, Some, codes, false, map};
+ghost use Rattle.std.specs.Prelude.{option_map, string_bytes};
 ghost use Rattle.std.specs.List.{flat_map};
 ghost use Rattle.isle_ast.specs.MacroArgs.{definitions_have_macro_arg};
 ghost use Rattle.isle_ast.specs.TreeView.{definitions_of};
 ghost use Rattle.isle_ast_names.specs.TreeView.{name_of};
 ghost use Rattle.isle_ast_rules.specs.TreeView.{rule_of};
-ghost use Rattle.isle_check_environment.specs.Views.{extractors_at, rules_at};
-ghost use Rattle.isle_check_environment.specs.signatures.Environment.{environment};
-ghost use Rattle.isle_check_environment.specs.signatures.Views.{environment_of, term_of};
+ghost use Rattle.isle_check_environment.specs.Views.{rules_at};
+ghost use Rattle.isle_check_environment.specs.signatures.Views.{environment_of};
 ghost use Rattle.isle_check_typing.specs.Views.{found_of, variables_of};
 ghost use Rattle.isle_cli.specs.declared.failure.Failure.TheVariants.{Memory};
 ghost use Rattle.isle_lint_core.specs.Names.{names_at};
 ghost use Rattle.isle_lsp_diagnostics.specs.Hints as wanted;
-ghost use Rattle.isle_lsp_diagnostics.specs.Hints.{AreFileHints, AreHints, AreHintsOf, hint_of};
+ghost use Rattle.isle_lsp_diagnostics.specs.Hints.{AreHints, AreHintsOf, hint_of};
 ghost use Rattle.isle_lsp_features.specs.Places as places;
 ghost use Rattle.isle_lsp_features.specs.Programs.{text_of};
 ghost use Rattle.isle_lsp_protocol.specs.Items.{item_data, items_data};
 
-use crate::checks::sources_of;
 use crate::mentions::first_mentions;
-use isle_ast::ast::{Def, Extractor, Ident, Rule};
-use isle_check_environment::parts::{extractors_in, rules_in};
-use isle_check_environment::signatures::{Environment, Term};
-use isle_check_recursion::recursions;
-use isle_check_rules::rule_variables;
-use isle_check_typing::{Found, Refusal, Variable, find};
+use crate::rules::{first_of, read, typed_rules, variables};
+use isle_ast::ast::{Def, Ident, Rule};
+use isle_check_environment::signatures::Environment;
+use isle_check_typing::{Found, Variable, find};
 use isle_cli::failure::Failure;
 use isle_lsp_features::Text;
 use isle_lsp_features::places::{File, file_of};
 use isle_lsp_protocol::items::Item;
 use isle_lsp_text::positions::{Range, START, offset_of, place_at};
-use isle_program::trees::{drop_reading, read_all};
+use isle_program::trees::drop_reading;
 use std::alloc::{AllocError, Global};
-
-/// How many patterns or expressions of a rule may lie in one another, as in `isle-check`.
-const RULE_DEPTH: usize = 500;
 
 /// A type that is shown.
 #[derive(Clone, Copy)]
@@ -65,22 +58,7 @@ pub fn inlay_hints<'a>(
         file.now range (items_data items.items)) }
     ensures err { IfErr result (λ failure. failure ≡ Memory) }
 {
-    match programs {
-        [program, ..] => program_hints(alloc, program, file, range),
-        [] => Ok(Vec::new(alloc)),
-    }
-}
-
-fn program_hints<'a>(
-    alloc: Global,
-    program: &[Text],
-    file: &str,
-    range: Range,
-) -> Result<Vec<Item<'a>>, Failure>
-    ensures ok { IfOk result (λ items. AreHintsOf (map text_of program.now)
-        (places.file_from 0 file.now (map text_of program.now)) range (items_data items.items)) }
-    ensures err { IfErr result (λ failure. failure ≡ Memory) }
-{
+    let program = first_of(programs);
     match file_of(program, file) {
         Some(file) => file_hints(alloc, program, file, range),
         None => Ok(Vec::new(alloc)),
@@ -93,12 +71,11 @@ fn file_hints<'a>(
     file: File,
     range: Range,
 ) -> Result<Vec<Item<'a>>, Failure>
-    ensures ok { IfOk result (λ items. AreFileHints (map text_of program.now)
-        (places.file_of file.entry) range (items_data items.items)) }
+    ensures ok { IfOk result (λ items. AreHintsOf (map text_of program.now)
+        (Some (places.file_of file.entry)) range (items_data items.items)) }
     ensures err { IfErr result (λ failure. failure ≡ Memory) }
 {
-    let sources = sources_of(alloc, program)?;
-    let reading = read_all(alloc, &sources)?;
+    let reading = read(alloc, program)?;
     let items = items_in(alloc, &reading.defs, file, range);
     drop_reading(reading);
     Ok(items?)
@@ -117,87 +94,28 @@ fn items_in<'a>(
         (wanted.hints_in (places.file_of file.entry) (definitions_of defs.now))) }
 {
     let env = Environment::new(alloc, defs)?;
-    if are_endless(alloc, &env, defs)? {
-        return Ok(Vec::new(alloc));
-    }
-    let rules = rules_in(alloc, defs)?;
-    let hints = rules_hints(alloc, file, &env, &rules)?;
+    let rules = typed_rules(alloc, &env, file, defs)?;
+    let hints = rules_hints(alloc, file.text, &env, &rules)?;
     items(alloc, file.text, &within(alloc, file.text, range, &hints)?)
 }
 
-/// Returns whether writing out an internal extractor may have no end: one uses itself, or is one of
-/// a variant. `env` is the environment of the program.
-fn are_endless(alloc: Global, env: &Environment, defs: &[Def]) -> Result<bool, AllocError>
-    requires { environment_of env.now ≡ environment (definitions_of defs.now) }
-    ensures { IfOk result (λ are. are ≡ wanted.are_endless (definitions_of defs.now)) }
-{
-    let extractors = extractors_in(alloc, defs)?;
-    if have_variant(env, &extractors) {
-        return Ok(true);
-    }
-    let recursions = recursions(alloc, env, defs)?;
-    Ok(!recursions.is_empty())
-}
-
-/// Returns whether one of these internal extractors is one of a variant.
-fn have_variant(env: &Environment, extractors: &[&Extractor]) -> bool
-    ensures { result
-        ≡ wanted.have_variant (environment_of env.now) (extractors_at extractors.now) }
-{
-    for extractor in extractors {
-        if is_variant(env.term(extractor.term.0.as_str())) {
-            return true;
-        }
-    }
-    false
-}
-
-fn is_variant(term: Option<&Term>) -> bool
-    ensures { result ≡ wanted.is_variant (option_map (λ t. term_of t.now) term.entry) }
-{
-    match term {
-        Some(term) => term.is_variant,
-        None => false,
-    }
-}
-
-/// The hints of those of these rules that stand in a file.
+/// The hints of these rules of a text.
 fn rules_hints<'e>(
     alloc: Global,
-    file: File,
+    text: &str,
     env: &'e Environment,
     rules: &[&Rule],
 ) -> Result<Vec<Hint<'e>>, AllocError>
     ensures { IfOk result (λ hints. map hint_of hints.items
-        ≡ wanted.file_hints (places.file_of file.entry) (environment_of env.now)
-        (rules_at rules.now)) }
+        ≡ wanted.rules_hints text.now (environment_of env.now) (rules_at rules.now)) }
 {
     let mut hints = Vec::new(alloc);
     for rule in rules {
-        add_hints_if_in(alloc, file, env, rule, &mut hints)?;
+        add_rule_hints(alloc, text, env, rule, &mut hints)?;
     }
     Ok(hints)
 }
 
-/// Adds the hints of a rule, if it stands in a file.
-fn add_hints_if_in<'e>(
-    alloc: Global,
-    file: File,
-    env: &'e Environment,
-    rule: &Rule,
-    hints: &mut Vec<Hint<'e>>,
-) -> Result<(), AllocError>
-    ensures { OnOk result (map hint_of hints.new.items ≡ map hint_of hints.old.items
-        ++ wanted.hints_if_in (places.file_of file.entry) (environment_of env.now)
-        (rule_of rule.now)) }
-{
-    if rule.pos.file == file.number {
-        return add_rule_hints(alloc, file.text, env, rule, hints);
-    }
-    Ok(())
-}
-
-#[tactic(auto, unfolding(crate::specs::Hints::rule_hints))]
 fn add_rule_hints<'e>(
     alloc: Global,
     text: &str,
@@ -208,11 +126,9 @@ fn add_rule_hints<'e>(
     ensures { OnOk result (map hint_of hints.new.items ≡ map hint_of hints.old.items
         ++ wanted.rule_hints text.now (environment_of env.now) (rule_of rule.now)) }
 {
-    match rule_variables(alloc, RULE_DEPTH, env, rule) {
-        Ok(variables) => add_hints(text, &variables, &first_mentions(alloc, rule)?, hints),
-        Err(Refusal::TooDeep) => Ok(()),
-        Err(Refusal::Memory) => Err(AllocError),
-    }
+    let variables = variables(alloc, env, rule)?;
+    let names = first_mentions(alloc, rule)?;
+    add_hints(text, &variables, &names, hints)
 }
 
 /// Adds the types of the variables that have these names.
