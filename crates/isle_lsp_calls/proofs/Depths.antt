@@ -1,10 +1,10 @@
 -- How deep the answers about calls nest.
-use Rattle.std.proofs.Common.{◌≤◌, ◌+◌, ℕ, List, [], ◌∷◌, Bool, true, false, Option, None, Some, if◌then◌else◌, arith, flat_map, length, nat_lt, slice_get, subst, sym}
+use Rattle.std.proofs.Common.{◌≤◌, ◌+◌, ℕ, List, [], ◌∷◌, Bool, true, false, Option, None, Some, if◌then◌else◌, arith, length, nat_lt, slice_get, subst, sym}
 use Rattle.serde_json.specs.Data.{Data, array, depth}
 use Rattle.serde_json.specs.View.{items_of}
 use Rattle.isle_index.specs.declared.occurrences.Occurrence.{Occurrence}
 use Rattle.isle_lsp_calls.specs.Incoming.{AreIncomingFrom, IsIncoming, by_caller, incoming_in}
-use Rattle.isle_lsp_calls.specs.Items.{IsFirstItem, IsItem, IsItemAt, IsPrepared, item_list, pos, range_of, term_at}
+use Rattle.isle_lsp_calls.specs.Items.{IsFirstItem, IsItemAt, IsPrepared, item_list, pos, range_of, term_at}
 use Rattle.isle_lsp_calls.specs.Outgoing.{AreCallsOf, IsCallTo, IsOutgoing}
 use Rattle.isle_lsp_calls.specs.Ranges.{calls_in}
 use Rattle.isle_lsp_calls.specs.Sources.{Source}

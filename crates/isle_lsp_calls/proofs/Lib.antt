@@ -1,2 +1,5 @@
+pub mod Defining
 pub mod Depths
 pub mod Following
+pub mod Looking
+pub mod Unread

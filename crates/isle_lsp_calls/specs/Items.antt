@@ -44,12 +44,20 @@ term_at place all = only_term (name_at place all)
 abbrev pub range_of : List ℕ → Part → Range
 range_of text p = range_between text p.from p.to
 
--- The item of a definition. A variant is written shorter than its name, which begins with the name of its type.
+-- a definition of a name is a variant: it is written shorter than its name, which begins with the name of its type
+abbrev pub is_variant : NameNode → Occurrence → Bool
+is_variant name o = nat_lt o.len (length (name_text name))
+
+-- the extent of the whole definition of a name, by the lists of its text
+abbrev pub extent_of : (text : List ℕ) → List ListSpan → NameNode → Occurrence → Part
+extent_of text lists name o = whole_of text lists (is_variant name o) o.pos.offset o.len
+
+-- the item of a definition, by the lists of its text
+abbrev pub item_of : Source → List ListSpan → NameNode → Occurrence → Data
+item_of s lists name o = call_item (name_text name) s.uri (range_of s.text (extent_of s.text lists name o)) (range_at s.text o.pos.offset o.len)
+
 abbrev pub IsItemIn : Source → NameNode → Occurrence → Data → Type 0
-IsItemIn s name o d =
-    (lists : List ListSpan) × AreLists s.text lists
-    × (d ≡ call_item (name_text name) s.uri (range_of s.text (whole_of s.text lists (nat_lt o.len (length (name_text name))) o.pos.offset o.len))
-    (range_at s.text o.pos.offset o.len))
+IsItemIn s name o d = (lists : List ListSpan) × AreLists s.text lists × (d ≡ item_of s lists name o)
 
 -- the item of a definition, if its text is in the program
 abbrev pub IsItemAt : Option Source → NameNode → Occurrence → Option Data → Type 0

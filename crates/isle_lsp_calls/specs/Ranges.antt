@@ -1,5 +1,5 @@
 -- The ranges of calls.
-use Rattle.std.specs.Prelude.{ℕ, List, [], ◌∷◌, ◌&&◌, ◌==◌, if◌then◌else◌}
+use Rattle.std.specs.Prelude.{ℕ, List, [], ◌∷◌, Bool, ◌&&◌, ◌==◌, if◌then◌else◌}
 use Rattle.std.specs.List.{flat_map, list_any}
 use Rattle.isle_index.specs.declared.occurrences.Occurrence.{Occurrence}
 use Rattle.isle_lsp_text.specs.Calls.{calls_at}
@@ -7,10 +7,14 @@ use Rattle.isle_lsp_text.specs.Ranges.{range_at}
 use Rattle.isle_lsp_text.specs.declared.calls.Caller.{Caller}
 use Rattle.isle_lsp_text.specs.declared.positions.Range.{Range}
 
+-- an occurrence is in the text with this number
+abbrev pub is_in : ℕ → Occurrence → Bool
+is_in number o = o.pos.file == number
+
 -- the range of an occurrence, if it is in the text with this number, and one of these definitions calls there
 abbrev pub call_in : ℕ → (text : List ℕ) → List Caller → Occurrence → List Range
 call_in number text callers o =
-    if o.pos.file == number && list_any (calls_at o.pos.offset) callers then range_at text o.pos.offset o.len ∷ [] else []
+    if is_in number o && list_any (calls_at o.pos.offset) callers then range_at text o.pos.offset o.len ∷ [] else []
 
 abbrev pub calls_in : ℕ → (text : List ℕ) → List Caller → List Occurrence → List Range
 calls_in number text callers found = flat_map (call_in number text callers) found

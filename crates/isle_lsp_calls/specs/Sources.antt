@@ -7,5 +7,8 @@ pub record Source : Type 0 where
   pub uri : List ℕ
   pub text : List ℕ
 
+abbrev pub source : (uri text : List ℕ) → Source
+source uri text = record { uri = uri; text = text }
+
 abbrev pub source_of : CodeSource → Source
-source_of s = record { uri = s.uri.now; text = s.text.now }
+source_of s = source s.uri.now s.text.now

@@ -1,24 +1,24 @@
 //! Incoming calls: the rules and extractors of a program that use a term.
 
-ghost use Rattle.std.specs.Prelude.{◌≡◌, ◌++◌, IfOk, OnOk, map, option_map, option_to_list};
+ghost use Rattle.std.specs.Prelude.{◌≡◌, ◌++◌, IfOk, List, OnOk, map, option_map, option_to_list};
+ghost use Rattle.serde_json.specs.Data.{Data};
 ghost use Rattle.serde_json.specs.View.{view};
 ghost use Rattle.isle_index.specs.Held.{all_in};
 ghost use Rattle.isle_lsp_calls.specs.Incoming as wanted;
-ghost use Rattle.isle_lsp_calls.specs.Incoming.{AreIncomingFrom, IsIncoming};
+ghost use Rattle.isle_lsp_calls.specs.Incoming.{AreIncomingFrom, AreIncomingIn, IsIncoming};
 ghost use Rattle.isle_lsp_calls.specs.Items.{pos, term_at};
-ghost use Rattle.isle_lsp_calls.specs.Sources.{source_of};
-ghost use Rattle.isle_lsp_text.specs.Positions.{IsPlace};
-ghost use Rattle.std.specs.List.{flat_map};
+ghost use Rattle.isle_lsp_calls.specs.Rulers.{IsRuler};
+ghost use Rattle.isle_lsp_calls.specs.Sources.{source, source_of};
 
 use crate::Source;
 use crate::items::{add_some, term_at};
-use crate::ranges::calls_in;
+use crate::ranges::{calls_in, has_some};
+use crate::rulers::{Ruler, range_at, range_from, ruler_of};
 use isle_base::lexer::Pos;
 use isle_index::{Index, Occurrence};
 use isle_lsp_protocol::results::{CallItem, call_item, incoming_call};
 use isle_lsp_text::calls::{Caller, callers};
-use isle_lsp_text::positions::{Place, Range, START};
-use isle_lsp_text::ranges::{range_between, range_near};
+use isle_lsp_text::positions::Range;
 use serde_json::Value;
 use std::alloc::{AllocError, Global};
 use std::slice;
@@ -59,84 +59,78 @@ fn incoming_among(
 {
     let mut calls = Vec::new(alloc);
     for (number, source) in program.iter().enumerate() {
-        let callers = callers(alloc, source.text)?;
-        add_incoming(alloc, number, *source, index, &callers, found, &mut calls)?;
+        add_incoming(alloc, number, *source, index, found, &mut calls)?;
     }
     Ok(calls)
 }
 
-/// Adds the calls by these definitions of the text with this number.
+/// Adds the calls by the definitions of the text with this number. A text without an occurrence is
+/// not read.
 fn add_incoming(
     alloc: Global,
     number: usize,
     source: Source,
     index: &Index,
-    callers: &[Caller],
     found: &[Occurrence],
     calls: &mut Vec<Value>,
 ) -> Result<(), AllocError>
-    ensures { OnOk result (map view calls.new.items ≡ map view calls.old.items
-        ++ flat_map (wanted.incoming_in number (source_of source.entry) (all_in index.now)
-        found.now) callers.now) }
+    ensures { OnOk result ((here : List Data)
+        × AreIncomingIn number (source_of source.entry) (all_in index.now) found.now here
+        × (map view calls.new.items ≡ map view calls.old.items ++ here)) }
 {
-    let mut near = START;
-    for caller in callers {
-        let call = incoming_in(alloc, number, source, index, &mut near, caller, found)?;
+    if !has_some(number, found) {
+        return Ok(());
+    }
+    let callers = callers(alloc, source.text)?;
+    let ruler = ruler_of(alloc, source.text)?;
+    for caller in &callers {
+        let call = incoming_in(alloc, number, source.uri, &ruler, index, caller, found)?;
         add_some(calls, call)?;
     }
     Ok(())
 }
 
-/// The calls by a definition of the text with this number, if there are any. The walk to the
-/// definition begins at a place nearby, which becomes that of the name that it implements.
+/// The calls by a definition of the text with this number, if there are any.
 fn incoming_in(
     alloc: Global,
     number: usize,
-    source: Source,
+    uri: &str,
+    ruler: &Ruler,
     index: &Index,
-    near: &mut Place,
     caller: &Caller,
     found: &[Occurrence],
 ) -> Result<Option<Value>, AllocError>
-    requires { IsPlace source.text.now near.old }
-    ensures call { IfOk result (λ call. option_to_list (option_map view call)
-        ≡ wanted.incoming_in number (source_of source.entry) (all_in index.now) found.now
-        caller.now) }
-    ensures near { IsPlace source.entry.text.now near.new }
+    requires { IsRuler ruler.now }
+    ensures { IfOk result (λ call. option_to_list (option_map view call)
+        ≡ wanted.incoming_in number (source uri.now ruler.now.text.now) (all_in index.now)
+        found.now caller.now) }
 {
-    let ranges = calls_in(
-        alloc,
-        number,
-        source.text,
-        *near,
-        slice::from_ref(caller),
-        found,
-    )?;
+    let ranges = calls_in(alloc, number, ruler, slice::from_ref(caller), found)?;
     if ranges.is_empty() {
         return Ok(None);
     }
-    by_caller(alloc, number, source, index, near, caller, &ranges)
+    by_caller(alloc, number, uri, ruler, index, caller, &ranges)
 }
 
 /// The calls in these ranges by a definition of the text with this number, if it implements a term.
 fn by_caller(
     alloc: Global,
     number: usize,
-    source: Source,
+    uri: &str,
+    ruler: &Ruler,
     index: &Index,
-    near: &mut Place,
     caller: &Caller,
     ranges: &[Range],
 ) -> Result<Option<Value>, AllocError>
-    requires { IsPlace source.text.now near.old }
-    ensures call { let place = pos number caller.now.name in IfOk result (λ call.
-        option_to_list (option_map view call) ≡ wanted.by_caller (source_of source.entry)
-        caller.now (term_at place (all_in index.now)) ranges.now) }
-    ensures near { IsPlace source.entry.text.now near.new }
+    requires { IsRuler ruler.now }
+    ensures { let place = pos number caller.now.name in IfOk result (λ call.
+        option_to_list (option_map view call) ≡ wanted.by_caller
+        (source uri.now ruler.now.text.now) caller.now (term_at place (all_in index.now))
+        ranges.now) }
 {
     match term_at(alloc, index, Pos::new(number, caller.name))? {
         Some(name) => {
-            let from = caller_item(alloc, source, near, caller, name.text())?;
+            let from = caller_item(alloc, uri, ruler, caller, name.text())?;
             Ok(Some(incoming_call(alloc, from, ranges)?))
         }
         None => Ok(None),
@@ -146,19 +140,17 @@ fn by_caller(
 /// The item of a definition that implements this name.
 fn caller_item(
     alloc: Global,
-    source: Source,
-    near: &mut Place,
+    uri: &str,
+    ruler: &Ruler,
     caller: &Caller,
     name: &str,
 ) -> Result<Value, AllocError>
-    requires { IsPlace source.text.now near.old }
-    ensures item { IfOk result (λ item. view item
-        ≡ wanted.caller_item (source_of source.entry) caller.now name.now) }
-    ensures near { IsPlace source.entry.text.now near.new }
+    requires { IsRuler ruler.now }
+    ensures { IfOk result (λ item. view item
+        ≡ wanted.caller_item (source uri.now ruler.now.text.now) caller.now name.now) }
 {
-    let (uri, text) = (source.uri, source.text);
-    let range = range_between(text, near, caller.from, caller.to);
-    let selection = range_near(text, near, caller.name, name.len());
+    let range = range_from(ruler, caller.from, caller.to);
+    let selection = range_at(ruler, caller.name, name.len());
     call_item(
         alloc,
         CallItem {

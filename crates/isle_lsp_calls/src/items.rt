@@ -1,22 +1,23 @@
 //! The items of the call hierarchy: the terms of a program, by their definitions.
 
 ghost use Rattle.std.specs.Prelude.{◌≡◌, ◌++◌, IfOk, OnOk, Some, map, option_map, option_to_list};
-ghost use Rattle.std.specs.Prelude.{slice_get};
+ghost use Rattle.std.specs.List.{All};
 ghost use Rattle.serde_json.specs.View.{view};
 ghost use Rattle.isle_index.specs.Held.{all_in};
 ghost use Rattle.isle_lsp_calls.specs.Items as wanted;
 ghost use Rattle.isle_lsp_calls.specs.Items.{IsFirstItem, IsItem, IsItemIn, IsPrepared, item_list};
+ghost use Rattle.isle_lsp_calls.specs.Outlines.{IsOutline, outlined};
 ghost use Rattle.isle_lsp_calls.specs.Sources.{source_of};
 ghost use Rattle.isle_resolve.specs.Names.{named_of};
 
 use crate::Source;
+use crate::outlines::{Outline, outline_of};
+use crate::rulers::{range_at, range_from};
 use isle_base::lexer::Pos;
 use isle_index::{Index, Kind, Name, Occurrence};
 use isle_lsp_protocol::results::{CallItem, call_item};
-use isle_lsp_text::lists::lists;
-use isle_lsp_text::positions::START;
-use isle_lsp_text::ranges::{range_at, range_between};
-use isle_lsp_text::wholes::whole_of;
+use isle_lsp_text::lists::ListSpan;
+use isle_lsp_text::wholes::{Part, whole_of};
 use serde_json::Value;
 use std::alloc::{AllocError, Global};
 
@@ -51,7 +52,7 @@ pub(crate) fn term_at(alloc: Global, index: &Index, place: Pos) -> Result<Option
 }
 
 /// Returns whether a name is that of a term.
-fn is_term(name: &Name) -> bool
+pub fn is_term(name: &Name) -> bool
     ensures { result ≡ wanted.is_term (named_of name.now) }
 {
     match name {
@@ -61,7 +62,7 @@ fn is_term(name: &Name) -> bool
 }
 
 /// The item of a name, which is its first definition, or `None` if it is not defined.
-pub(crate) fn item_of(
+fn item_of(
     alloc: Global,
     program: &[Source],
     index: &Index,
@@ -87,42 +88,55 @@ fn item_at(
     ensures { IfOk result (λ item. IsFirstItem (map source_of program.now) (named_of name.now)
         (Some definition) (option_map view item)) }
 {
-    match source_at(program, definition.pos.file) {
+    match program.get(definition.pos.file) {
         Some(source) => {
-            let item = item_in(alloc, *source, name, definition)?;
+            let outline = outline_of(alloc, *source)?;
+            let item = item_in(alloc, &outline, name, definition)?;
             Ok(Some(item))
         }
         None => Ok(None),
     }
 }
 
-/// The text with this number.
-fn source_at<'a>(program: &'a [Source<'a>], number: usize) -> Option<&'a Source<'a>>
-    ensures { option_map (λ s. source_of s.now) result
-        ≡ slice_get (map source_of program.now) number }
+/// The item of a definition among texts with their lists, or `None` if it is in none of them.
+pub(crate) fn item_among(
+    alloc: Global,
+    outlines: &[Outline],
+    name: &Name,
+    definition: Option<Occurrence>,
+) -> Result<Option<Value>, AllocError>
+    requires { All IsOutline outlines.now }
+    ensures { IfOk result (λ item. IsFirstItem (map outlined outlines.now) (named_of name.now)
+        definition (option_map view item)) }
 {
-    program.get(number)
+    let Some(definition) = definition else {
+        return Ok(None);
+    };
+    match outlines.get(definition.pos.file) {
+        Some(outline) => {
+            let item = item_in(alloc, outline, name, definition)?;
+            Ok(Some(item))
+        }
+        None => Ok(None),
+    }
 }
 
 /// The item of a definition in this text: its name, and the extent of the whole definition.
 fn item_in(
     alloc: Global,
-    source: Source,
+    outline: &Outline,
     name: &Name,
     definition: Occurrence,
 ) -> Result<Value, AllocError>
+    requires { IsOutline outline.now }
     ensures { IfOk result (λ item.
-        IsItemIn (source_of source.entry) (named_of name.now) definition (view item)) }
+        IsItemIn (outlined outline.now) (named_of name.now) definition (view item)) }
 {
-    let (uri, text) = (source.uri, source.text);
-    let (offset, len) = (definition.pos.offset, definition.len);
-    let lists = lists(alloc, text)?;
-    let is_variant = len < name.text().len();
-    let whole = whole_of(text, &lists, is_variant, offset, len);
-    let mut near = START;
-    let range = range_between(text, &mut near, whole.from, whole.to);
-    let selection = range_at(text, offset, len);
-    let name = name.text();
+    let ruler = &outline.ruler;
+    let whole = extent_of(ruler.text, &outline.lists, name, definition);
+    let range = range_from(ruler, whole.from, whole.to);
+    let selection = range_at(ruler, definition.pos.offset, definition.len);
+    let (name, uri) = (name.text(), outline.uri);
     call_item(
         alloc,
         CallItem {
@@ -132,6 +146,28 @@ fn item_in(
             selection,
         },
     )
+}
+
+/// The extent of the whole definition of a name, by the lists of its text.
+pub fn extent_of(text: &str, lists: &[ListSpan], name: &Name, definition: Occurrence) -> Part
+    ensures { result ≡ wanted.extent_of text.now lists.now (named_of name.now) definition }
+{
+    let is_variant = is_variant(name, definition);
+    whole_of(
+        text,
+        lists,
+        is_variant,
+        definition.pos.offset,
+        definition.len,
+    )
+}
+
+/// Returns whether a definition of a name is a variant: it is written shorter than its name, which
+/// begins with the name of its type.
+pub fn is_variant(name: &Name, definition: Occurrence) -> bool
+    ensures { result ≡ wanted.is_variant (named_of name.now) definition }
+{
+    definition.len < name.text().len()
 }
 
 /// A list of an item, or null if there is none.

@@ -8,7 +8,9 @@
 pub mod incoming;
 pub mod items;
 pub mod outgoing;
-mod ranges;
+mod outlines;
+pub mod ranges;
+mod rulers;
 
 /// A text of a program.
 #[derive(Clone, Copy)]

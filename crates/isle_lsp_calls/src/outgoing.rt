@@ -1,25 +1,28 @@
 //! Outgoing calls: the terms that the rules and the extractor of a term use.
 
-ghost use Rattle.std.specs.Prelude.{◌≡◌, IfOk, Some, filter, map, option_map, option_to_list};
-ghost use Rattle.std.specs.List.{list_any};
+ghost use Rattle.std.specs.Prelude.{◌≡◌, IfOk, filter, map, option_map, option_to_list};
+ghost use Rattle.std.specs.Prelude.{slice_get};
+ghost use Rattle.std.specs.List.{All, list_any};
 ghost use Rattle.serde_json.specs.View.{view};
 ghost use Rattle.isle_index.specs.Held.{all_in};
 ghost use Rattle.isle_index.specs.Occurrences.{occurrence_at};
 ghost use Rattle.isle_lsp_calls.specs.Items.{term_at};
 ghost use Rattle.isle_lsp_calls.specs.Outgoing as wanted;
-ghost use Rattle.isle_lsp_calls.specs.Outgoing.{AreAsked, AreCallsOf, IsCallOf, IsCallTo};
+ghost use Rattle.isle_lsp_calls.specs.Outgoing.{AreAsked, AreCallsOf, IsCallOf};
 ghost use Rattle.isle_lsp_calls.specs.Outgoing.{IsOutgoing, IsOutgoingOf};
+ghost use Rattle.isle_lsp_calls.specs.Outlines.{IsOutline, outlined};
+ghost use Rattle.isle_lsp_calls.specs.Rulers.{IsRuler};
 ghost use Rattle.isle_lsp_calls.specs.Sources.{source_of};
-ghost use Rattle.isle_resolve.specs.Names.{named_of};
 
 use crate::Source;
-use crate::items::{add_some, item_of, term_at};
+use crate::items::{add_some, item_among, term_at};
+use crate::outlines::{Outline, outlines};
 use crate::ranges::calls_in;
+use crate::rulers::{Ruler, ruler_of};
 use isle_base::lexer::Pos;
 use isle_index::{Index, Kind, Name, Occurrence};
 use isle_lsp_protocol::results::outgoing_call;
 use isle_lsp_text::calls::{Caller, callers, words};
-use isle_lsp_text::positions::START;
 use serde_json::Value;
 use std::alloc::{AllocError, Global};
 use std::slice;
@@ -65,7 +68,12 @@ fn outgoing_of(
 {
     let callers = asked_callers(alloc, number, text, found, at)?;
     let words = words(alloc, text, &callers)?;
-    let calls = calls_of(alloc, program, index, number, text, &callers, &words)?;
+    if words.is_empty() {
+        return Ok(Value::Array(Vec::new(alloc)));
+    }
+    let outlines = outlines(alloc, program)?;
+    let ruler = ruler_of(alloc, text)?;
+    let calls = calls_of(alloc, &outlines, index, number, &ruler, &callers, &words)?;
     Ok(Value::Array(calls))
 }
 
@@ -135,20 +143,22 @@ fn implements(number: usize, found: &[Occurrence], caller: &Caller) -> bool
 /// The calls by these definitions of the terms that have these names.
 fn calls_of(
     alloc: Global,
-    program: &[Source],
+    outlines: &[Outline],
     index: &Index,
     number: usize,
-    text: &str,
+    ruler: &Ruler,
     callers: &[Caller],
     words: &[&str],
 ) -> Result<Vec<Value>, AllocError>
-    ensures { IfOk result (λ calls. AreCallsOf (map source_of program.now) number text.now
-        callers.now (all_in index.now) (map (λ word. word.now) words.now)
+    requires outlines { All IsOutline outlines.now }
+    requires ruler { IsRuler ruler.now }
+    ensures { IfOk result (λ calls. AreCallsOf (map outlined outlines.now) number
+        ruler.now.text.now callers.now (all_in index.now) (map (λ word. word.now) words.now)
         (map view calls.items)) }
 {
     let mut calls = Vec::new(alloc);
     for word in words {
-        let call = call_of(alloc, program, index, number, text, callers, word)?;
+        let call = call_of(alloc, outlines, index, number, ruler, callers, word)?;
         add_some(&mut calls, call)?;
     }
     Ok(calls)
@@ -157,44 +167,43 @@ fn calls_of(
 /// The calls by these definitions of the term that has this name, if there are any.
 fn call_of(
     alloc: Global,
-    program: &[Source],
+    outlines: &[Outline],
     index: &Index,
     number: usize,
-    text: &str,
+    ruler: &Ruler,
     callers: &[Caller],
     word: &str,
 ) -> Result<Option<Value>, AllocError>
-    ensures { IfOk result (λ call. IsCallOf (map source_of program.now) number text.now
-        callers.now (all_in index.now) word.now (option_to_list (option_map view call))) }
+    requires outlines { All IsOutline outlines.now }
+    requires ruler { IsRuler ruler.now }
+    ensures { IfOk result (λ call. IsCallOf (map outlined outlines.now) number
+        ruler.now.text.now callers.now (all_in index.now) word.now
+        (option_to_list (option_map view call))) }
 {
     let kind = Kind::Term;
     let name = Name::Global {
         kind,
         text: String::from_str(alloc, word)?,
     };
-    match item_of(alloc, program, index, &name)? {
-        Some(to) => call_to(alloc, index, number, text, callers, &name, to),
+    let found = index.occurrences(alloc, &name)?;
+    let ranges = calls_in(alloc, number, ruler, callers, &found)?;
+    if ranges.is_empty() {
+        return Ok(None);
+    }
+    match item_among(alloc, outlines, &name, first_defined(&found))? {
+        Some(to) => Ok(Some(outgoing_call(alloc, to, &ranges)?)),
         None => Ok(None),
     }
 }
 
-/// The calls by these definitions of a term with this item, if there are any.
-fn call_to(
-    alloc: Global,
-    index: &Index,
-    number: usize,
-    text: &str,
-    callers: &[Caller],
-    name: &Name,
-    to: Value,
-) -> Result<Option<Value>, AllocError>
-    ensures { IfOk result (λ call. IsCallTo number text.now callers.now (all_in index.now)
-        (named_of name.now) (Some (view to)) (option_to_list (option_map view call))) }
+/// The first of these occurrences that is a definition.
+fn first_defined(found: &[Occurrence]) -> Option<Occurrence>
+    ensures { result ≡ slice_get (filter (λ o. o.is_definition) found.now) 0 }
 {
-    let found = index.occurrences(alloc, name)?;
-    let ranges = calls_in(alloc, number, text, START, callers, &found)?;
-    if ranges.is_empty() {
-        return Ok(None);
+    for occurrence in found {
+        if occurrence.is_definition {
+            return Some(*occurrence);
+        }
     }
-    Ok(Some(outgoing_call(alloc, to, &ranges)?))
+    None
 }

@@ -1,10 +1,12 @@
-use Rattle.std.proofs.Common.{arith, refl}
-use Rattle.std.proofs.lemmas.Grind.{common_steps}
-use Rattle.isle_lsp_text.proofs.Places.{start_place}
+use Rattle.std.proofs.Common.{[], map, sym, ◌∙◌}
+use Rattle.std.proofs.lemmas.List.{append-nil}
+use Rattle.serde_json.specs.View.{view}
+use Rattle.isle_index.specs.Held.{all_in}
+use Rattle.isle_lsp_calls.proofs.Unread.{none_incoming}
+use Rattle.isle_lsp_calls.specs.Sources.{source_of}
 use Rattle.isle_lsp_calls.proofs.incoming.add_incoming.Goals as goal
 
-pub loop-caller-init : goal.loop-caller-init
-loop-caller-init c = record { so_far = refl; near = start_place _ }
-
-pub loop-caller-preserved : goal.loop-caller-preserved
-loop-caller-preserved c = record { so_far = grind (arith, common_steps); near = c.in_ok-call.ensures.near }
+-- a text without an occurrence has no calls
+pub returns-then-not-has_some : goal.returns-then-not-has_some
+returns-then-not-has_some c =
+    ([], none_incoming c.args.number (source_of c.args.source) (all_in c.args.index.now) c.args.found.now (sym c.has_some.ensures ∙ c.if-not-has_some.true), sym (append-nil (map view c.args.calls.now.items)))

@@ -11,8 +11,9 @@ pub loop-number-preserved : goal.loop-number-preserved
 loop-number-preserved c =
     let program = c.args.program.now in
     let i = c.loop-number.number in
-    next_text _ (map source_of (drop (i + 1) program)) _ _ i (all_in c.args.index.now) c.args.found.now _ _ _ _
-    (ap (map source_of) (drop_more program i _ c.loop-number-test.true)) c.in_ok-callers.ensures c.deref.ensures.value c.in_ok-add_incoming.ensures c.loop-number.invariant
+    let added = c.in_ok-add_incoming.ensures in
+    next_text _ (map source_of (drop (i + 1) program)) _ _ i (all_in c.args.index.now) c.args.found.now _ _ added.0
+    (ap (map source_of) (drop_more program i _ c.loop-number-test.true)) added.1 added.2 c.loop-number.invariant
 
 pub returns : goal.returns
 returns c =

@@ -3,10 +3,10 @@ use Rattle.serde_json.specs.Data.{Data}
 use Rattle.serde_json.specs.View.{view}
 use Rattle.isle_index.specs.Held.{all_in}
 use Rattle.isle_lsp_calls.specs.Outgoing.{AreCallsOf}
-use Rattle.isle_lsp_calls.specs.Sources.{source_of}
+use Rattle.isle_lsp_calls.specs.Outlines.{outlined}
 use Rattle.isle_lsp_calls.proofs.outgoing.calls_of.Given as goal
 
 abbrev pub invariant-loop-word : goal.invariant-loop-word
 invariant-loop-word l =
-    (rest : List Data) → AreCallsOf (map source_of l.program) l.number l.text l.callers (all_in l.index) (map (λ word. word.now) (drop l.word-index l.words)) rest
-    → AreCallsOf (map source_of l.program) l.number l.text l.callers (all_in l.index) (map (λ word. word.now) l.words) (map view l.calls.items ++ rest)
+    (rest : List Data) → AreCallsOf (map outlined l.outlines) l.number l.ruler.text.now l.callers (all_in l.index) (map (λ word. word.now) (drop l.word-index l.words)) rest
+    → AreCallsOf (map outlined l.outlines) l.number l.ruler.text.now l.callers (all_in l.index) (map (λ word. word.now) l.words) (map view l.calls.items ++ rest)

@@ -3,4 +3,4 @@ use Rattle.std.proofs.lemmas.Grind.{common_steps}
 use Rattle.isle_lsp_calls.proofs.ranges.calls_in.Goals as goal
 
 pub loop-occurrence-preserved : goal.loop-occurrence-preserved
-loop-occurrence-preserved c = record { so_far = grind (arith, common_steps); near = c.call_in.ensures.near }
+loop-occurrence-preserved c = grind (arith, common_steps)
