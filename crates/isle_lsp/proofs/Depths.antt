@@ -28,7 +28,7 @@ use Rattle.isle_lsp_protocol.proofs.Depths.{IsWithin, at_most, initialized_depth
 use Rattle.isle_lsp_features.proofs.Depths.{IsAboutNames, answer_within}
 use Rattle.isle_lsp.specs.Alone.{FormatsUnless, Gives, GivesAt, GivesWithin, IsAlone, IsFormattingWithin, IsOfDocument}
 use Rattle.isle_lsp.specs.Formatted.{IsFormatting, is_blank_at}
-use Rattle.isle_lsp.specs.Serving.{AreDocumentActions, AreViewHints, GivesActions, Held, IsHover, IsNamed, IsResult, IsResultOf, IsShallow, IsTyped, document_in, named_range, question}
+use Rattle.isle_lsp.specs.Serving.{AreDocumentActions, AreViewHints, GivesActions, Held, IsHover, IsNamed, IsResult, IsResultOf, IsShallow, IsTyped, document_in, named_range, question, texts_of}
 
 -- what was decoded nests no deeper than JSON is read
 pub decoded : (body : List ℕ) (json : Option Data) → Decodes body json → IsShallow json
@@ -77,11 +77,11 @@ alone_within : (request : DocumentRequest) (d : Data) (document : Option Documen
 alone_within request d None o h = within 126 o _ h tt
 alone_within request d (Some document) o h = document_within request d document o h
 
-actions_within : (d : Data) (held : Held) (document : Option Document) (o : Outcome) → GivesActions d held document o → IsWithin 126 o
-actions_within d held None o h = within 126 o _ h tt
-actions_within d held (Some document) o h =
-    gives_within (AreDocumentActions d held document) o
-    (λ x f. omega (arith, answer_depth held.takes_document_changes document.uri document.version document.text d x f)) h
+actions_within : (d : Data) (held : Held) (view : View) (document : Option Document) (o : Outcome) → GivesActions d held view document o → IsWithin 126 o
+actions_within d held view None o h = within 126 o _ h tt
+actions_within d held view (Some document) o h =
+    gives_within (AreDocumentActions d held view document) o
+    (λ x f. omega (arith, answer_depth held.takes_document_changes document.uri document.version document.text (texts_of (programs_of held.documents view view.file)) d x f)) h
 
 named_within : (request : requests.Request) (d : Data) (held : Held) (view : View) (o : Outcome) → IsAboutNames request → depth d ≤ 127 → IsNamed request d held view o → IsWithin 126 o
 named_within request d held view o n m h = answer_within (question request d held view) _ o n m h
@@ -100,7 +100,7 @@ result_within Shutdown d held view o m h = within 126 o _ h (omega arith)
 result_within (Alone request) d held view o m h = alone_within request d (document_in d held.documents) o h
 result_within InlayHint d held view o m h =
     range_within (AreViewHints held.documents view) (named_range d) o (λ range x f. omega (arith, hints_depth (programs_of held.documents view view.file) view.file range x f)) h
-result_within CodeAction d held view o m h = actions_within d held (document_in d held.documents) o h
+result_within CodeAction d held view o m h = actions_within d held view (document_in d held.documents) o h
 result_within Unknown d held view o m h = within 126 o _ h tt
 result_within DocumentSymbol d held view o m h = named_within DocumentSymbol d held view o tt m h
 result_within WorkspaceSymbol d held view o m h = named_within WorkspaceSymbol d held view o tt m h

@@ -19,7 +19,7 @@ use Rattle.isle_lsp_protocol.specs.Replies.{Outcome, done, error_outcome, failed
 use Rattle.isle_lsp_protocol.specs.Capabilities.{initialize_result}
 use Rattle.isle_lsp_protocol.specs.Watching.{watch_request}
 use Rattle.isle_lsp_features.specs.Answers as names
-use Rattle.isle_lsp_features.specs.Programs.{Question}
+use Rattle.isle_lsp_features.specs.Programs.{Question, Text, bytes_of}
 use Rattle.isle_lsp_actions.specs.Answers.{AreActions}
 use Rattle.isle_lsp.specs.Alone.{Gives, GivesWithin, IsAlone}
 use Rattle.isle_lsp_diagnostics.specs.Hints.{AreHints}
@@ -129,13 +129,18 @@ named_range d = option_and_then (λ uri. parameters.range_of d) (parameters.uri_
 abbrev pub AreViewHints : List Document → View → Range → Data → Type 0
 AreViewHints docs view range d = AreHints (programs_of docs view view.file) view.file range d
 
--- the code actions in an open document
-abbrev pub AreDocumentActions : Data → Held → Document → Data → Type 0
-AreDocumentActions message held document d = AreActions held.takes_document_changes document.uri document.version document.text message d
+-- the texts of these programs
+abbrev pub texts_of : List (List Text) → List (List (List ℕ))
+texts_of programs = map (map bytes_of) programs
 
-abbrev pub GivesActions : Data → Held → Option Document → Outcome → Type 0
-GivesActions message held None o = o ≡ error_outcome InvalidParams
-GivesActions message held (Some document) o = Gives (AreDocumentActions message held document) o
+-- the code actions in an open document, which may look at the programs that have the view's file
+abbrev pub AreDocumentActions : Data → Held → View → Document → Data → Type 0
+AreDocumentActions message held view document d =
+    AreActions held.takes_document_changes document.uri document.version document.text (texts_of (programs_of held.documents view view.file)) message d
+
+abbrev pub GivesActions : Data → Held → View → Option Document → Outcome → Type 0
+GivesActions message held view None o = o ≡ error_outcome InvalidParams
+GivesActions message held view (Some document) o = Gives (AreDocumentActions message held view document) o
 
 -- the outcome of a request with these parameters, in this state
 abbrev pub IsResult : requests.Request → Data → Held → View → Outcome → Type 0
@@ -144,7 +149,7 @@ IsResult Shutdown d held view o = o ≡ done null
 IsResult (Alone request) d held view o = IsAlone request d (document_in d held.documents) o
 IsResult Hover d held view o = IsHover d held view o
 IsResult InlayHint d held view o = GivesWithin (AreViewHints held.documents view) (named_range d) o
-IsResult CodeAction d held view o = GivesActions d held (document_in d held.documents) o
+IsResult CodeAction d held view o = GivesActions d held view (document_in d held.documents) o
 IsResult Unknown d held view o = o ≡ error_outcome MethodNotFound
 IsResult request d held view o = IsNamed request d held view o
 

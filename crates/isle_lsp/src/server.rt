@@ -428,7 +428,7 @@ fn outcome_in<'a>(
         }
         Request::Hover => hover_outcome(alloc, server, gathered, message, shown),
         Request::InlayHint => hints_outcome(alloc, &server.documents, message, shown),
-        Request::CodeAction => actions_outcome(alloc, server, message),
+        Request::CodeAction => actions_outcome(alloc, server, message, shown),
         Request::Unknown => Ok(error_outcome(ErrorCode::MethodNotFound)),
         _ => name_outcome(alloc, server, gathered, request, message, shown),
     }
