@@ -56,7 +56,7 @@ abbrev pub hint : List ℕ → List VariableNode → Name → List HintNode
 hint text vs n = hint_by (find vs n.text) (end_of text n)
 
 -- the hints of a rule
-abbrev pub rule_hints : List ℕ → EnvironmentNode → RuleDefinition → List HintNode
+unfoldable pub rule_hints : List ℕ → EnvironmentNode → RuleDefinition → List HintNode
 rule_hints text env r = flat_map (hint text (variables env r)) (first_mentions r)
 
 abbrev pub rules_hints : List ℕ → EnvironmentNode → List RuleDefinition → List HintNode

@@ -7,7 +7,7 @@ use Rattle.isle_ast_rules.specs.Tree.{Expression, term_expression, var_expressio
 use Rattle.isle_ast.specs.Tree.{Definition}
 use Rattle.isle_check_environment.specs.Names.{or_else}
 use Rattle.isle_check_environment.specs.signatures.Environment.{EnvironmentNode, environment}
-use Rattle.isle_check_typing.specs.Progress.{FoundNode, find}
+use Rattle.isle_check_typing.specs.Progress.{find}
 use Rattle.isle_lint_core.specs.Variables.{rule_variables}
 use Rattle.isle_lsp_features.specs.Places.{File, file_from}
 use Rattle.isle_lsp_features.specs.Programs.{Text}
@@ -60,17 +60,17 @@ use_after offset [] expr = use_at offset expr
 use_after offset (c ∷ cs) expr = or_else (use_at offset c.expr) (use_after offset cs expr)
 
 -- the variable that a rule mentions at an offset, in a pattern or in an expression
-abbrev pub mention_at : (offset : ℕ) → RuleDefinition → Option Name
+unfoldable pub mention_at : (offset : ℕ) → RuleDefinition → Option Name
 mention_at offset r = or_else (name_at offset (rule_variables r)) (use_after offset r.iflets r.expr)
 
 -- ---- types
 
-abbrev pub typed : Name → FoundNode → List ℕ
-typed n v = n.text ++ codes " : " ++ v.ty
+abbrev pub typed : Name → (ty : List ℕ) → List ℕ
+typed n ty = n.text ++ codes " : " ++ ty
 
 -- a name with the type that its variable has in a rule, if it has one
-abbrev pub typed_in : EnvironmentNode → RuleDefinition → Name → Option (List ℕ)
-typed_in env r n = option_map (typed n) (find (variables env r) n.text)
+unfoldable pub typed_in : EnvironmentNode → RuleDefinition → Name → Option (List ℕ)
+typed_in env r n = option_map (λ v. typed n v.ty) (find (variables env r) n.text)
 
 abbrev pub typed_or : EnvironmentNode → RuleDefinition → Option Name → (rest : Option (List ℕ)) → Option (List ℕ)
 typed_or env r None rest = rest

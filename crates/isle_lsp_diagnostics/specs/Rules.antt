@@ -45,5 +45,5 @@ abbrev pub typed_rules : File → List Definition → List RuleDefinition
 typed_rules f ds = if are_endless ds then [] else rules_at_file f.number (rules_in ds)
 
 -- the variables of a rule. There are none where more patterns or expressions lie in one another than are typed
-abbrev pub variables : EnvironmentNode → RuleDefinition → List VariableNode
+unfoldable pub variables : EnvironmentNode → RuleDefinition → List VariableNode
 variables env r = unwrap_or (rule_variables rule_depth env r) []

@@ -116,6 +116,7 @@ fn rules_hints<'e>(
     Ok(hints)
 }
 
+#[tactic(auto, unfolding(crate::specs::Hints::rule_hints))]
 fn add_rule_hints<'e>(
     alloc: Global,
     text: &str,

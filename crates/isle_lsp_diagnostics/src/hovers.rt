@@ -203,6 +203,7 @@ fn typed_at(
 }
 
 /// A variable of a rule with its type, if it has one.
+#[tactic(auto, unfolding(crate::specs::Hovers::typed_in))]
 fn typed_in(
     alloc: Global,
     env: &Environment,
@@ -213,18 +214,26 @@ fn typed_in(
         ≡ wanted.typed_in (environment_of env.now) (rule_of rule.now) (name_of name.now)) }
 {
     let variables = variables(alloc, env, rule)?;
-    typed(alloc, name, find(&variables, name.0.as_str()))
+    typed_as(alloc, name, find(&variables, name.0.as_str()))
 }
 
-fn typed(alloc: Global, name: &Ident, found: Option<Found>) -> Result<Option<String>, AllocError>
+fn typed_as(alloc: Global, name: &Ident, found: Option<Found>) -> Result<Option<String>, AllocError>
     ensures { IfOk result (λ ty. option_map string_bytes ty
-        ≡ option_map (wanted.typed (name_of name.now)) (option_map found_of found.entry)) }
+        ≡ option_map (λ v. wanted.typed (name_of name.now) v.ty) (option_map found_of found.entry)) }
 {
     match found {
         Some(found) => {
-            let text = format!(in alloc; "{} : {}", name.0.as_str(), found.ty)?;
+            let text = typed(alloc, name, found.ty)?;
             Ok(Some(text))
         }
         None => Ok(None),
     }
+}
+
+/// A name with its type.
+fn typed(alloc: Global, name: &Ident, ty: &str) -> Result<String, AllocError>
+    ensures { IfOk result
+        (λ text. string_bytes text ≡ wanted.typed (name_of name.now) ty.now) }
+{
+    format!(in alloc; "{} : {ty}", name.0)
 }

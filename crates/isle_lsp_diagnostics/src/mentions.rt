@@ -58,6 +58,7 @@ fn add_unless_among<'a>(
 
 /// The variable that a rule mentions at an offset, or right before it: in a pattern, or in an
 /// expression, unless a `let` binds it there. An `Err` means out of memory.
+#[tactic(auto, unfolding(crate::specs::Hovers::mention_at))]
 pub fn mention_at<'a>(
     alloc: Global,
     rule: &'a Rule,

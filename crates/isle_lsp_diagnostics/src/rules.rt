@@ -126,6 +126,7 @@ fn is_variant(term: Option<&Term>) -> bool
 
 /// The variables of a rule, with their types. There are none if more patterns or expressions lie in
 /// one another than `isle-check` types.
+#[tactic(auto, unfolding(crate::specs::Rules::variables))]
 pub fn variables<'e>(
     alloc: Global,
     env: &'e Environment,
