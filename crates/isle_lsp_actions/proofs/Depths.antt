@@ -1,26 +1,25 @@
 -- How deep the actions nest.
-use Rattle.std.proofs.Common.{◌≡◌, ℕ, ℤ, ◌≤◌, map, Bool, true, false, List, Option, None, Some, arith}
-use Rattle.serde_json.specs.Data.{Data, array, depth, no_items}
-use Rattle.isle_lsp_actions.specs.Actions.{Action, all_actions}
-use Rattle.isle_lsp_actions.specs.Answers.{AreActions, AreActionsIf, action_data, actions_data, edit_data, insertion_data}
-use Rattle.isle_lsp_actions.specs.Told.{diagnostics_in, wants_fixes}
+use Rattle.std.proofs.Common.{◌≡◌, ℕ, ℤ, ◌≤◌, ◌++◌, map, Bool, true, false, List, Option, None, Some, option_to_list, arith}
+use Rattle.serde_json.specs.Data.{Data, depth}
+use Rattle.isle_lsp_actions.specs.Actions.{Action}
+use Rattle.isle_lsp_actions.specs.Answers.{AreActions, action_data, actions_data, edit_data, replacement_data}
 use Rattle.isle_lsp_protocol.proofs.Depths.{at_most, items_shallow, map_shallow, text_edit_depth}
 use Rattle.isle_lsp_protocol.specs.Results.{version_data}
-use Rattle.isle_lsp_text.specs.Ranges.{range_at}
+use Rattle.isle_lsp_text.specs.Ranges.{range_between}
 
 version_depth : (version : Option ℤ) → depth (version_data version) ≤ 1
 version_depth None = omega arith
 version_depth (Some v) = omega arith
 
-insertion_depth : (text : List ℕ) (a : Action) → depth (insertion_data text a) ≤ 5
-insertion_depth text a = omega (arith, text_edit_depth (range_at text a.offset 0) a.inserted)
+replacement_depth : (text : List ℕ) (a : Action) → depth (replacement_data text a) ≤ 5
+replacement_depth text a = omega (arith, text_edit_depth (range_between text a.from a.to) a.new_text)
 
 edit_depth : (takes : Bool) (uri : List ℕ) (version : Option ℤ) (edits : Data) → depth edits ≤ 5 → depth (edit_data takes uri version edits) ≤ 9
 edit_depth true uri version edits h = omega (arith, version_depth version, h)
 edit_depth false uri version edits h = omega (arith, h)
 
 action_depth : (takes : Bool) (uri : List ℕ) (version : Option ℤ) (text : List ℕ) (a : Action) → depth (action_data takes uri version text a) ≤ 10
-action_depth takes uri version text a = omega (arith, edit_depth takes uri version (insertion_data text a) (insertion_depth text a))
+action_depth takes uri version text a = omega (arith, edit_depth takes uri version (replacement_data text a) (replacement_depth text a))
 
 actions_depth : (takes : Bool) (uri : List ℕ) (version : Option ℤ) (text : List ℕ) (actions : List Action) → depth (actions_data takes uri version text actions) ≤ 11
 actions_depth takes uri version text actions = omega (arith, items_shallow 10 (map (action_data takes uri version text) actions) (map_shallow 10 (action_data takes uri version text) actions (action_depth takes uri version text)))
@@ -29,12 +28,7 @@ pub shallow : (takes : Bool) (uri : List ℕ) (version : Option ℤ) (text : Lis
     → depth d ≤ 120
 shallow takes uri version text actions d is = at_most 120 d (actions_data takes uri version text actions) is (omega (arith, actions_depth takes uri version text actions))
 
-depth_if : (wanted takes : Bool) (uri : List ℕ) (version : Option ℤ) (text : List ℕ) (message d : Data) → AreActionsIf wanted takes uri version text message d
-    → depth d ≤ 120
-depth_if false takes uri version text message d h = at_most 120 d (array no_items) h (omega arith)
-depth_if true takes uri version text message d h =
-    shallow takes uri version text (all_actions text h.names h.lists (diagnostics_in message)) d h.are
-
 -- the answer to a request nests no deeper than this
-pub answer_depth : (takes : Bool) (uri : List ℕ) (version : Option ℤ) (text : List ℕ) (message d : Data) → AreActions takes uri version text message d → depth d ≤ 120
-answer_depth takes uri version text message d h = depth_if (wants_fixes message) takes uri version text message d h
+pub answer_depth : (takes : Bool) (uri : List ℕ) (version : Option ℤ) (text : List ℕ) (programs : List (List (List ℕ))) (message d : Data)
+    → AreActions takes uri version text programs message d → depth d ≤ 120
+answer_depth takes uri version text programs message d h = shallow takes uri version text (h.fixes ++ option_to_list h.expansion) d h.are

@@ -1,5 +1,5 @@
--- Actions insert their texts at offsets of the document.
-use Rattle.std.proofs.Common.{ℕ, ◌≤◌, ◌&&◌, Bool, true, false, if◌then◌else◌, List, [], ◌∷◌, ◌++◌, Option, None, Some, codes, length, take, option_and_then, arith}
+-- Actions for diagnostics insert their texts at offsets of the document.
+use Rattle.std.proofs.Common.{◌≡◌, ℕ, ◌≤◌, ◌&&◌, Bool, true, false, if◌then◌else◌, List, [], ◌∷◌, ◌++◌, Option, None, Some, codes, length, take, option_and_then, refl, arith}
 use Rattle.std.proofs.lemmas.List.{length-take}
 use Rattle.std.specs.List.{AllByRecursion}
 use Rattle.serde_json.specs.Data.{Data, Items, no_items, item}
@@ -16,13 +16,13 @@ use Rattle.isle_lsp_text.specs.declared.positions.Position.{Position}
 use Rattle.isle_lsp_text.proofs.Walks.{whole_law}
 
 abbrev AreWithin : List ℕ → List Action → Type 0
-AreWithin text actions = AllByRecursion (λ a. a.offset ≤ length text) actions
+AreWithin text actions = AllByRecursion (λ a. (a.from ≡ a.to) × (a.to ≤ length text)) actions
 
 append_within : (text : List ℕ) (xs ys : List Action) → AreWithin text xs → AreWithin text ys → AreWithin text (xs ++ ys)
 append_within text [] ys h k = k
 append_within text (x ∷ xs) ys h k = (h.0, append_within text xs ys h.1 k)
 
-one_if_within : (text : List ℕ) (b : Bool) (a : Action) → a.offset ≤ length text → AreWithin text (if b then a ∷ [] else [])
+one_if_within : (text : List ℕ) (b : Bool) (a : Action) → (a.from ≡ a.to) × (a.to ≤ length text) → AreWithin text (if b then a ∷ [] else [])
 one_if_within text true a h = (h, tt)
 one_if_within text false a h = tt
 
@@ -62,13 +62,13 @@ line_within text offset =
 
 allowing_within : (text : List ℕ) (lint : Lint) (o : Option ℕ) → IsWithin text o → AreWithin text (allowing_at text lint o)
 allowing_within text lint None h = tt
-allowing_within text lint (Some offset) h = (h, tt)
+allowing_within text lint (Some offset) h = ((refl, h), tt)
 
 prefixing_within : (text : List ℕ) (names : List Name) (t : Told) (definition : ListSpan) (o : Option (List ℕ)) → t.from ≤ length text
     → AreWithin text (prefixing_of text names t definition o)
 prefixing_within text names t definition None h = tt
 prefixing_within text names t definition (Some name) h =
-    one_if_within text (is_unused t.lint && can_become text names t definition name (underscore ∷ name)) (prefix_of t name) h
+    one_if_within text (is_unused t.lint && can_become text names t definition name (underscore ∷ name)) (prefix_of t name) (refl, h)
 
 in_within : (text : List ℕ) (names : List Name) (t : Told) (o : Option ListSpan) → t.from ≤ length text → AreWithin text (actions_in text names t o)
 in_within text names t None h = tt
@@ -81,7 +81,8 @@ for_within : (text : List ℕ) (names : List Name) (lists : List ListSpan) (o : 
 for_within text names lists None h = tt
 for_within text names lists (Some t) h = in_within text names t (outer_list t.from lists) h
 
-pub within : (text : List ℕ) (names : List Name) (lists : List ListSpan) (ds : Items) → AllByRecursion (λ a. a.offset ≤ length text) (all_actions text names lists ds)
+pub within : (text : List ℕ) (names : List Name) (lists : List ListSpan) (ds : Items)
+    → AllByRecursion (λ a. (a.from ≡ a.to) × (a.to ≤ length text)) (all_actions text names lists ds)
 within text names lists no_items = tt
 within text names lists (item d ds) =
     append_within text (actions_for text names lists (told_in text d)) (all_actions text names lists ds)

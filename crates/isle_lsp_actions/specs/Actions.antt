@@ -1,4 +1,4 @@
--- The actions for the diagnostics of lints. Each inserts a text.
+-- Actions, and those for the diagnostics of lints, which insert a text.
 use Rattle.std.specs.Prelude.{ℕ, ◌+◌, List, [], ◌∷◌, ◌++◌, Bool, true, false, not, ◌&&◌, ◌==◌, Option, None, Some, codes, length, string_bytes, if◌then◌else◌}
 use Rattle.serde_json.specs.Data.{Items, no_items, item}
 use Rattle.isle_base.specs.Bytes.{underscore}
@@ -10,19 +10,27 @@ use Rattle.isle_lsp_actions.specs.Insertions.{is_mark, line_end, line_of, stands
 use Rattle.isle_lsp_actions.specs.Names.{Name, count_in, name_at}
 use Rattle.isle_lsp_actions.specs.Told.{told_in}
 use Rattle.isle_lsp_actions.specs.declared.actions.Action.{Action as CodeAction}
+use Rattle.isle_lsp_actions.specs.declared.actions.ActionKind.{ActionKind}
+use Rattle.isle_lsp_actions.specs.declared.actions.ActionKind.TheVariants.{QuickFix}
 use Rattle.isle_lsp_actions.specs.declared.told.Told.{Told}
 use Rattle.isle_lsp_text.specs.Lists.{outer_list}
 use Rattle.isle_lsp_text.specs.declared.lists.ListSpan.{ListSpan}
 
--- an action: its title, and the text that it inserts at an offset
+-- an action: its title, its kind, and the text that it puts in place of what is between two offsets
 pub record Action : Type 0 where
   pub title : List ℕ
-  pub offset : ℕ
-  pub inserted : List ℕ
+  pub kind : ActionKind
+  pub from : ℕ
+  pub to : ℕ
+  pub new_text : List ℕ
 
 -- that of the code
 abbrev pub action_of : CodeAction → Action
-action_of a = record { title = string_bytes a.title; offset = a.offset; inserted = string_bytes a.inserted }
+action_of a = record { title = string_bytes a.title; kind = a.kind; from = a.from; to = a.to; new_text = string_bytes a.new_text }
+
+-- an action that corrects what a lint finds, and inserts a text at an offset
+abbrev pub insertion : (title : List ℕ) → (offset : ℕ) → (text : List ℕ) → Action
+insertion title offset text = record { title = title; kind = QuickFix; from = offset; to = offset; new_text = text }
 
 -- ---- `_` before a name
 
@@ -42,7 +50,7 @@ can_become text names t definition name new =
     && count_in definition name names == 1 && count_in definition new names == 0
 
 abbrev pub prefix_of : Told → List ℕ → Action
-prefix_of t name = record { title = codes "Prefix `" ++ name ++ codes "` with `_`"; offset = t.from; inserted = underscore ∷ [] }
+prefix_of t name = insertion (codes "Prefix `" ++ name ++ codes "` with `_`") t.from (underscore ∷ [])
 
 abbrev pub prefixing_of : List ℕ → List Name → Told → ListSpan → Option (List ℕ) → List Action
 prefixing_of text names t definition None = []
@@ -56,11 +64,8 @@ prefixing text names t definition = prefixing_of text names t definition (name_a
 -- ---- a comment above a definition
 
 abbrev pub allowance_of : List ℕ → Lint → (offset : ℕ) → Action
-allowance_of text lint offset = record {
-  title = codes "Allow `" ++ name lint ++ codes "` for this definition";
-  offset = offset;
-  inserted = codes "; isle-lint: allow " ++ name lint ++ line_end text;
-}
+allowance_of text lint offset =
+    insertion (codes "Allow `" ++ name lint ++ codes "` for this definition") offset (codes "; isle-lint: allow " ++ name lint ++ line_end text)
 
 abbrev pub allowing_at : List ℕ → Lint → Option ℕ → List Action
 allowing_at text lint None = []

@@ -1,5 +1,10 @@
 pub mod Actions
 pub mod Answers
+pub mod Expansions
+pub mod Extractors
 pub mod Insertions
+pub mod Items
 pub mod Names
+pub mod Templates
+pub mod Tokens
 pub mod Told

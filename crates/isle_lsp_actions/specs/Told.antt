@@ -59,6 +59,34 @@ abbrev pub wants_fixes_of : Option Items → Bool
 wants_fixes_of None = true
 wants_fixes_of (Some kinds) = has_kind_of_fixes kinds
 
+-- the kinds that a request wants only
+abbrev pub kinds_in : Data → Option Items
+kinds_in d = option_and_then as_array (pointer (codes "/params/context/only") d)
+
 -- whether a request wants quick fixes: it names no kinds that it wants only, or a kind of theirs
 abbrev pub wants_fixes : Data → Bool
-wants_fixes d = wants_fixes_of (option_and_then as_array (pointer (codes "/params/context/only") d))
+wants_fixes d = wants_fixes_of (kinds_in d)
+
+-- a kind of actions that those are of that put in place of a use what it stands for
+abbrev pub is_kind_of_inlining : Data → Bool
+is_kind_of_inlining d = is_text (codes "refactor.inline") (as_str d) || is_text (codes "refactor") (as_str d) || is_text (codes "") (as_str d)
+
+abbrev pub has_kind_of_inlining : Items → Bool
+has_kind_of_inlining no_items = false
+has_kind_of_inlining (item d ds) = is_kind_of_inlining d || has_kind_of_inlining ds
+
+abbrev pub wants_inlining_of : Option Items → Bool
+wants_inlining_of None = true
+wants_inlining_of (Some kinds) = has_kind_of_inlining kinds
+
+-- the same of these actions
+abbrev pub wants_inlining : Data → Bool
+wants_inlining d = wants_inlining_of (kinds_in d)
+
+abbrev pub offset_of_position : List ℕ → Option Position → Option ℕ
+offset_of_position text None = None
+offset_of_position text (Some p) = Some (offset_at p text)
+
+-- the offset at which the range of a request begins
+abbrev pub asked_at : List ℕ → Data → Option ℕ
+asked_at text d = offset_of_position text (position_at (codes "/params/range/start") d)

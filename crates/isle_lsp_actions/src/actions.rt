@@ -1,7 +1,7 @@
-//! The actions for the diagnostics of lints. Each inserts a text.
+//! Actions, and those for the diagnostics of lints, which insert a text.
 
 ghost use Rattle.std.specs.Prelude.{◌≡◌, ◌++◌, IfOk, OnOk, map, option_map};
-ghost use Rattle.std.specs.Prelude.{Some, option_to_list};
+ghost use Rattle.std.specs.Prelude.{Some, option_to_list, string_bytes};
 ghost use Rattle.serde_json.specs.View.{items_view};
 ghost use Rattle.isle_lsp_actions.specs.Actions as wanted;
 ghost use Rattle.isle_lsp_actions.specs.Actions.{action_of};
@@ -16,15 +16,28 @@ use isle_lsp_text::lists::{ListSpan, outer_list};
 use serde_json::Value;
 use std::alloc::{AllocError, Global};
 
-/// An action.
+/// A kind of actions.
+#[derive(Clone, Copy)]
+pub enum ActionKind {
+    /// An action that corrects what a lint finds.
+    QuickFix,
+    /// An action that puts in place of a use what it stands for.
+    Inlining,
+}
+
+/// An action: it puts a text in place of a part of the document.
 #[derive(Drop)]
 pub struct Action {
     /// What the client shows.
     pub title: String,
-    /// The byte offset at which the action inserts a text.
-    pub offset: usize,
+    /// Its kind.
+    pub kind: ActionKind,
+    /// The byte offset at which the part begins.
+    pub from: usize,
+    /// The byte offset at which it ends.
+    pub to: usize,
     /// The text.
-    pub inserted: String,
+    pub new_text: String,
 }
 
 /// The actions for each of these diagnostics, given the names and the lists of the text.
@@ -148,11 +161,9 @@ fn can_become(
 fn prefix_of(alloc: Global, told: Told, name: &str) -> Result<Action, AllocError>
     ensures { IfOk result (λ action. action_of action ≡ wanted.prefix_of told name.now) }
 {
-    Ok(Action {
-        title: format!(in alloc; "Prefix `{name}` with `_`")?,
-        offset: told.from,
-        inserted: String::from_str(alloc, "_")?,
-    })
+    let title = format!(in alloc; "Prefix `{name}` with `_`")?;
+    let text = String::from_str(alloc, "_")?;
+    Ok(insertion(title, told.from, text))
 }
 
 /// The action that puts a comment above a definition, which disables a lint for it.
@@ -177,9 +188,21 @@ fn allowance_of(alloc: Global, text: &str, lint: Lint, offset: usize) -> Result<
 {
     let lint = lint.name();
     let end = line_end(text);
-    Ok(Action {
-        title: format!(in alloc; "Allow `{lint}` for this definition")?,
-        offset,
-        inserted: format!(in alloc; "; isle-lint: allow {lint}{end}")?,
-    })
+    let title = format!(in alloc; "Allow `{lint}` for this definition")?;
+    let text = format!(in alloc; "; isle-lint: allow {lint}{end}")?;
+    Ok(insertion(title, offset, text))
+}
+
+/// The action that corrects what a lint finds, and inserts a text at an offset.
+fn insertion(title: String, offset: usize, text: String) -> Action
+    ensures { action_of result
+        ≡ wanted.insertion (string_bytes title) offset (string_bytes text) }
+{
+    Action {
+        title,
+        kind: ActionKind::QuickFix,
+        from: offset,
+        to: offset,
+        new_text: text,
+    }
 }

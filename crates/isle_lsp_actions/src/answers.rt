@@ -7,9 +7,10 @@ ghost use Rattle.isle_lsp_actions.specs.Answers as wanted;
 ghost use Rattle.isle_lsp_protocol.specs.Results.{document_identifier, version_data};
 
 use crate::Document;
-use crate::actions::Action;
+use crate::actions::{Action, ActionKind};
 use isle_lsp_protocol::results::text_edit;
-use isle_lsp_text::ranges::range_at;
+use isle_lsp_text::positions::START;
+use isle_lsp_text::ranges::range_between;
 use serde_json::{Map, Number, Value, json, put};
 use std::alloc::{AllocError, Global};
 
@@ -42,18 +43,31 @@ fn action_value(
         document.entry.text.now (action_of action.now)) }
 {
     let title = action.title.as_str();
-    let edits = insertion_value(alloc, document.text, action)?;
+    let kind = kind_name(action.kind);
+    let edits = replacement_value(alloc, document.text, action)?;
     let edit = edit_value(alloc, document, edits, takes_document_changes)?;
-    json!(in alloc; {"title": title, "kind": "quickfix", "edit": edit})
+    json!(in alloc; {"title": title, "kind": kind, "edit": edit})
+}
+
+/// The name of a kind in the protocol.
+fn kind_name(kind: ActionKind) -> &'static str
+    ensures { result.now ≡ wanted.kind_name kind }
+{
+    match kind {
+        ActionKind::QuickFix => "quickfix",
+        ActionKind::Inlining => "refactor.inline",
+    }
 }
 
 /// The edit of an action, in an array of its own.
-fn insertion_value(alloc: Global, text: &str, action: &Action) -> Result<Value, AllocError>
+#[tactic(auto, using(isle_lsp_text::proofs::Places::start_place))]
+fn replacement_value(alloc: Global, text: &str, action: &Action) -> Result<Value, AllocError>
     ensures { IfOk result
-        (λ value. view value ≡ wanted.insertion_data text.now (action_of action.now)) }
+        (λ value. view value ≡ wanted.replacement_data text.now (action_of action.now)) }
 {
-    let range = range_at(text, action.offset, 0);
-    let edit = text_edit(alloc, range, action.inserted.as_str())?;
+    let mut near = START;
+    let range = range_between(text, &mut near, action.from, action.to);
+    let edit = text_edit(alloc, range, action.new_text.as_str())?;
     json!(in alloc; [edit])
 }
 

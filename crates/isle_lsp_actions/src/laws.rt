@@ -1,15 +1,15 @@
 //! A law of actions, stated as the contract of a function that does nothing.
 
-ghost use Rattle.std.specs.Prelude.{◌≤◌, ℕ, List, length};
+ghost use Rattle.std.specs.Prelude.{◌≡◌, ◌≤◌, ℕ, List, length};
 ghost use Rattle.std.specs.List.{AllByRecursion};
 ghost use Rattle.serde_json.specs.Data.{Items};
 ghost use Rattle.isle_lsp_actions.specs.Actions.{all_actions};
 ghost use Rattle.isle_lsp_actions.specs.Names.{Name};
 ghost use Rattle.isle_lsp_text.specs.declared.lists.ListSpan.{ListSpan};
 
-/// Each action inserts its text at an offset of the document.
+/// Each action for diagnostics inserts its text at an offset of the document.
 pub fn actions_are_within_the_text()
     ensures { (text : List ℕ) (names : List Name) (lists : List ListSpan) (diagnostics : Items)
-        → AllByRecursion (λ a. a.offset ≤ length text)
+        → AllByRecursion (λ a. (a.from ≡ a.to) × (a.to ≤ length text))
         (all_actions text names lists diagnostics) }
 {}

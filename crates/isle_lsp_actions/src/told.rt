@@ -94,10 +94,18 @@ fn array_at<'a>(message: &'a Value, path: &str) -> Option<&'a [Value]>
 pub fn wants_fixes(message: &Value) -> bool
     ensures { result ≡ wanted.wants_fixes (view message.now) }
 {
-    match array_at(message, "/params/context/only") {
+    match kinds_in(message) {
         Some(kinds) => has_kind_of_fixes(kinds),
         None => true,
     }
+}
+
+/// The kinds that a request wants only.
+fn kinds_in(message: &Value) -> Option<&[Value]>
+    ensures { option_map (λ items. items_view items.now) result
+        ≡ wanted.kinds_in (view message.now) }
+{
+    array_at(message, "/params/context/only")
 }
 
 fn has_kind_of_fixes(kinds: &[Value]) -> bool
@@ -116,4 +124,44 @@ fn is_kind_of_fixes(kind: &Value) -> bool
     ensures { result ≡ wanted.is_kind_of_fixes (view kind.now) }
 {
     is_text("quickfix", kind.as_str()) || is_text("", kind.as_str())
+}
+
+/// Returns whether a request wants actions that put in place of a use what it stands for.
+pub fn wants_inlining(message: &Value) -> bool
+    ensures { result ≡ wanted.wants_inlining (view message.now) }
+{
+    match kinds_in(message) {
+        Some(kinds) => has_kind_of_inlining(kinds),
+        None => true,
+    }
+}
+
+fn has_kind_of_inlining(kinds: &[Value]) -> bool
+    ensures { result ≡ wanted.has_kind_of_inlining (items_view kinds.now) }
+{
+    for kind in kinds {
+        if is_kind_of_inlining(kind) {
+            return true;
+        }
+    }
+    false
+}
+
+/// Returns whether these actions are of a kind: their own, or one that it is a kind of.
+fn is_kind_of_inlining(kind: &Value) -> bool
+    ensures { result ≡ wanted.is_kind_of_inlining (view kind.now) }
+{
+    is_text("refactor.inline", kind.as_str())
+        || is_text("refactor", kind.as_str())
+        || is_text("", kind.as_str())
+}
+
+/// The byte offset at which the range of a request begins.
+pub fn asked_at(text: &str, message: &Value) -> Option<usize>
+    ensures { result ≡ wanted.asked_at text.now (view message.now) }
+{
+    match position_at(message, "/params/range/start") {
+        Some(start) => Some(offset_of(text, start)),
+        None => None,
+    }
 }

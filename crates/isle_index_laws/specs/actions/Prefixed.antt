@@ -7,7 +7,7 @@ use Rattle.isle_lsp_actions.specs.Actions.{Action}
 
 -- the text after an action
 abbrev pub acted : Action → List ℕ → List ℕ
-acted a text = take a.offset text ++ (a.inserted ++ drop a.offset text)
+acted a text = take a.from text ++ (a.new_text ++ drop a.to text)
 
 -- an offset after one byte more at this one
 abbrev pub moved : (at offset : ℕ) → ℕ
@@ -28,6 +28,6 @@ prefixed at x = record {
   after = moved at x.after;
 }
 
--- The text after an action has these tokens, with a `_` more in the one at the action's offset.
+-- The text after an action has these tokens, with a `_` more in the one where the action begins.
 abbrev pub IsPrefixed : List ℕ → List Lexeme → Action → Type 0
-IsPrefixed text tokens a = lexes (acted a text) (map (prefixed a.offset) tokens) end
+IsPrefixed text tokens a = lexes (acted a text) (map (prefixed a.from) tokens) end
