@@ -1,6 +1,6 @@
 -- The type of a variable, shown above what a hover shows of it.
 use Rattle.std.specs.Prelude.{◌≡◌, ℕ, ◌+◌, List, [], ◌∷◌, ◌++◌, Bool, ◌&&◌, Option, None, Some, codes, length, nat_le, option_and_then, option_map, bytes_eq, if◌then◌else◌}
-use Rattle.serde_json.specs.Data.{Data, object, member, no_members, put, string}
+use Rattle.serde_json.specs.Data.{Data, object, put}
 use Rattle.serde_json.specs.Find.{as_str, get}
 use Rattle.isle_ast_names.specs.Tree.{Name}
 use Rattle.isle_ast_rules.specs.Tree.{Expression, term_expression, var_expression, bool_expression, int_expression, constant_expression, let_expression, ExpressionList, no_expression, more_expression, LetList, no_let, more_let, Condition, RuleDefinition}

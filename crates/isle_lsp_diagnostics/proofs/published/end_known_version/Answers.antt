@@ -1,7 +1,4 @@
-use Rattle.std.proofs.Common.{[], ◌∷◌, ◌++◌, Some, SFits, w64, ap, ◌∙◌, append_assoc, arith, codes, refl}
-use Rattle.std.proofs.lemmas.Result.{on_ok_weaker}
-use Rattle.std.specs.Fmt.{signed_decimal}
-use Rattle.json.specs.Token.{end_object, key, number}
+use Rattle.std.proofs.Common.{SFits, w64, arith}
 use Rattle.isle_lsp_diagnostics.proofs.Readings.{version_reads}
 use Rattle.isle_lsp_diagnostics.proofs.published.end_known_version.Goals as goal
 
