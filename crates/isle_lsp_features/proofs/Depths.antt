@@ -22,11 +22,11 @@ use Rattle.isle_lsp_protocol.specs.Parameters.{item_of, new_name_of, query_of, w
 use Rattle.isle_lsp_protocol.specs.Replies.{Outcome, done, failed}
 use Rattle.isle_lsp_features.specs.Answers.{AreSymbols, FindsAt, IsAnswer, IsAnswerOf, IsFoundAt, IsRenamingAt, IsRenamingBy, IsRenamingOf, IsResolution, refused}
 use Rattle.isle_lsp_calls.proofs.Depths as calls
-use Rattle.isle_lsp_calls.specs.Items.{term_at}
+use Rattle.isle_lsp_calls.specs.Items.{is_term, range_of, term_at}
 use Rattle.isle_lsp_features.specs.Called.{source_in}
 use Rattle.isle_lsp_features.specs.Completed.{AreCompletions, item_name, once, range_before, word_of}
-use Rattle.isle_lsp_features.specs.Defined.{AreDocumentSymbols, is_variant, letters_of, number_of, range_of, symbol_data, symbol_in, symbols_from, workspace_symbols}
-use Rattle.isle_lsp_features.specs.Implemented.{AreImplementations, AreImplementationsFrom, AreImplementationsIn, AreImplementationsOf, is_implementation, is_term}
+use Rattle.isle_lsp_features.specs.Defined.{AreDocumentSymbols, is_variant, letters_of, number_of, symbol_data, symbol_in, symbols_from, workspace_symbols}
+use Rattle.isle_lsp_features.specs.Implemented.{AreImplementations, AreImplementationsFrom, AreImplementationsIn, AreImplementationsOf, is_implementation}
 use Rattle.isle_lsp_features.specs.Located.{AreHighlights, AreReferences, IsDefinition, highlight_of, location_in, locations_from}
 use Rattle.isle_lsp_features.specs.Places.{File, Place, file_in, place_in}
 use Rattle.isle_lsp_features.specs.Programs.{Question, Text}

@@ -1,29 +1,15 @@
 -- What is found text by text, also in texts in which a name does not occur.
-use Rattle.std.proofs.Common.{◌≡◌, ◌∙◌, ◌+◌, ◌++◌, ℕ, List, [], ◌∷◌, true, false, ap, arith, filter, flat_map, length, refl, subst, sym}
+use Rattle.std.proofs.Common.{◌≡◌, ◌∙◌, ◌+◌, ◌++◌, ℕ, List, [], ◌∷◌, true, false, ap, filter, flat_map, refl, subst, sym}
 use Rattle.std.proofs.lemmas.Bool.{or_parts}
 use Rattle.std.proofs.lemmas.List.{append_assoc}
 use Rattle.std.specs.List.{list_any}
-use Rattle.isle_base.proofs.Exists.{computed_sound}
-use Rattle.isle_base.specs.Computed.{computed}
 use Rattle.serde_json.specs.Data.{Data}
 use Rattle.isle_index.specs.declared.occurrences.Occurrence.{Occurrence}
-use Rattle.isle_lsp_features.specs.Implemented.{AreImplementationsFrom, AreImplementationsIn, is_implementation, is_in}
+use Rattle.isle_lsp_calls.proofs.Unread.{marks_are, marks_in}
+use Rattle.isle_lsp_calls.specs.Ranges.{is_in}
+use Rattle.isle_lsp_features.specs.Implemented.{AreImplementationsFrom, AreImplementationsIn, is_implementation}
 use Rattle.isle_lsp_features.specs.Located.{location_in}
 use Rattle.isle_lsp_features.specs.Programs.{Text}
-use Rattle.isle_lsp_text.specs.Implementations.{AreImplemented, implemented_from}
-use Rattle.isle_lsp_text.specs.declared.implementations.DefinitionPart.TheVariants.{Keyword}
-
--- the marks of a text that is not read
-abbrev pub marks_in : List ℕ → List ℕ
-marks_in text = implemented_from text 0 Keyword (computed (length text) (length text) text).tokens
-
-pub marks_are : (text : List ℕ) → AreImplemented text (marks_in text)
-marks_are text = record {
-  tokens = (computed (length text) (length text) text).tokens;
-  ending = (computed (length text) (length text) text).ending;
-  lexed = computed_sound (length text) (length text) text (omega arith);
-  are = refl;
-}
 
 pub none_marked : (number : ℕ) (marks : List ℕ) (found : List Occurrence) → list_any (is_in number) found ≡ false → filter (is_implementation number marks) found ≡ []
 none_marked number marks [] h = refl

@@ -4,6 +4,7 @@ use Rattle.std.specs.Char.{eq_ignore_ascii_case}
 use Rattle.std.specs.List.{flat_map}
 use Rattle.serde_json.specs.Data.{Data, array}
 use Rattle.serde_json.specs.View.{items_of}
+use Rattle.isle_lsp_calls.specs.Items.{range_of}
 use Rattle.isle_lsp_features.specs.Programs.{Text}
 use Rattle.isle_resolve.specs.Scopes.{SeenNode}
 use Rattle.isle_index.specs.Symbols.{SymbolNode, symbols}
@@ -11,11 +12,9 @@ use Rattle.isle_index.specs.declared.symbols.SymbolKind.{SymbolKind}
 use Rattle.isle_index.specs.declared.symbols.SymbolKind.TheVariants as kinds
 use Rattle.isle_lsp_protocol.specs.Results as results
 use Rattle.isle_lsp_text.specs.Lists.{AreLists}
-use Rattle.isle_lsp_text.specs.Ranges.{range_at, range_between}
+use Rattle.isle_lsp_text.specs.Ranges.{range_at}
 use Rattle.isle_lsp_text.specs.Wholes.{whole_of}
 use Rattle.isle_lsp_text.specs.declared.lists.ListSpan.{ListSpan}
-use Rattle.isle_lsp_text.specs.declared.positions.Range.{Range}
-use Rattle.isle_lsp_text.specs.declared.wholes.Part.{Part}
 
 -- the protocol's number of a kind
 abbrev pub number_of : SymbolKind → ℕ
@@ -31,9 +30,6 @@ is_variant kinds.Type = false
 is_variant kinds.Variant = true
 is_variant kinds.Constant = false
 is_variant kinds.Variable = false
-
-abbrev pub range_of : List ℕ → Part → Range
-range_of text p = range_between text p.from p.to
 
 -- a definition: its range, and that of its name
 unfoldable pub symbol_data : List ℕ → List ListSpan → SymbolNode → Data

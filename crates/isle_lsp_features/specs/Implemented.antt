@@ -1,30 +1,20 @@
 -- The locations where names are implemented, as JSON.
-use Rattle.std.specs.Prelude.{◌≡◌, ℕ, ◌+◌, List, [], ◌∷◌, ◌++◌, Bool, ◌&&◌, ◌||◌, ◌==◌, true, false, Option, None, Some}
-use Rattle.std.specs.List.{filter, flat_map}
+use Rattle.std.specs.Prelude.{◌≡◌, ℕ, ◌+◌, List, [], ◌∷◌, ◌++◌, Bool, ◌&&◌, ◌==◌, true, false, Option, None, Some}
+use Rattle.std.specs.List.{filter, flat_map, list_any}
 use Rattle.serde_json.specs.Data.{Data, null, array}
 use Rattle.serde_json.specs.View.{items_of}
 use Rattle.isle_index.specs.Occurrences.{occurrences}
 use Rattle.isle_index.specs.declared.occurrences.Occurrence.{Occurrence}
-use Rattle.isle_lsp_features.specs.Located.{InOrder, location_in}
+use Rattle.isle_lsp_calls.specs.Items.{InOrder, is_term}
+use Rattle.isle_lsp_calls.specs.Ranges.{is_in}
+use Rattle.isle_lsp_features.specs.Located.{location_in}
 use Rattle.isle_lsp_features.specs.Programs.{Text}
 use Rattle.isle_lsp_text.specs.Implementations.{AreImplemented}
-use Rattle.isle_resolve.specs.Names.{NameNode, global, variable}
+use Rattle.isle_resolve.specs.Names.{NameNode}
 use Rattle.isle_resolve.specs.Scopes.{SeenNode}
-use Rattle.isle_resolve.specs.declared.event.Kind.TheVariants as kinds
-
-abbrev pub is_term : NameNode → Bool
-is_term (global kinds.Term text) = true
-is_term (global kinds.Type text) = false
-is_term (global kinds.Constant text) = false
-is_term (variable binder text) = false
 
 abbrev pub is_marked : ℕ → List ℕ → Bool
-is_marked offset [] = false
-is_marked offset (m ∷ ms) = m == offset || is_marked offset ms
-
--- an occurrence is in the text with this number
-abbrev pub is_in : ℕ → Occurrence → Bool
-is_in number o = o.pos.file == number
+is_marked offset ms = list_any (λ m. m == offset) ms
 
 -- an occurrence is in the text with this number, and at one of its marks
 abbrev pub is_implementation : ℕ → (marks : List ℕ) → Occurrence → Bool

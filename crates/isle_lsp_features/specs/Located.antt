@@ -1,10 +1,9 @@
 -- The locations of names, as JSON.
 use Rattle.std.specs.Prelude.{◌≡◌, ℕ, ◌+◌, List, [], ◌∷◌, ◌++◌, Bool, ◌&&◌, ◌||◌, ◌==◌, true, not, Option, None, Some, if◌then◌else◌}
 use Rattle.std.specs.List.{flat_map}
-use Rattle.std.specs.List.Sorted.{IsPermutation, IsSortedByKey}
 use Rattle.serde_json.specs.Data.{Data, null, array}
 use Rattle.serde_json.specs.View.{items_of}
-use Rattle.isle_base_source.specs.PositionOrder.{position_cmp}
+use Rattle.isle_lsp_calls.specs.Items.{InOrder}
 use Rattle.isle_lsp_features.specs.Programs.{Text}
 use Rattle.isle_resolve.specs.Names.{NameNode}
 use Rattle.isle_index.specs.Occurrences.{definitions, occurrences}
@@ -12,11 +11,6 @@ use Rattle.isle_resolve.specs.Scopes.{SeenNode}
 use Rattle.isle_index.specs.declared.occurrences.Occurrence.{Occurrence}
 use Rattle.isle_lsp_protocol.specs.Results as results
 use Rattle.isle_lsp_text.specs.Ranges.{range_at}
-
--- these occurrences, each once, in order of position
-pub record InOrder (all found : List Occurrence) : Type 0 where
-  pub exact : IsPermutation all found
-  pub in_order : IsSortedByKey (λ o. o.pos) position_cmp found
 
 -- the location of an occurrence, if it is in the text with this number, unless it is a definition and those are not asked for
 abbrev pub location_in : ℕ → Text → Bool → Occurrence → List Data

@@ -1,17 +1,16 @@
 -- The documentation of a name, as JSON.
-use Rattle.std.specs.Prelude.{◌≡◌, ℕ, ◌≤◌, List, ◌++◌, Option, None, Some, codes, length, nat_lt, slice_get, slice_range, IsCharBoundary}
+use Rattle.std.specs.Prelude.{◌≡◌, ℕ, ◌≤◌, List, ◌++◌, Option, None, Some, codes, slice_get, slice_range, IsCharBoundary}
 use Rattle.serde_json.specs.Data.{Data, null}
 use Rattle.isle_lsp_features.specs.Programs.{Text}
-use Rattle.isle_resolve.specs.Names.{NameNode, name_text}
+use Rattle.isle_resolve.specs.Names.{NameNode}
 use Rattle.isle_index.specs.Occurrences.{definitions}
 use Rattle.isle_resolve.specs.Scopes.{SeenNode}
 use Rattle.isle_index.specs.declared.occurrences.Occurrence.{Occurrence}
 use Rattle.isle_lsp_protocol.specs.Results as results
-use Rattle.isle_lsp_features.specs.Located.{InOrder}
+use Rattle.isle_lsp_calls.specs.Items.{InOrder, extent_of}
 use Rattle.isle_lsp_text.specs.Comments.{IsCommentsStart}
 use Rattle.isle_lsp_text.specs.Lists.{AreLists}
 use Rattle.isle_lsp_text.specs.Ranges.{range_at}
-use Rattle.isle_lsp_text.specs.Wholes.{whole_of}
 use Rattle.isle_lsp_text.specs.declared.lists.ListSpan.{ListSpan}
 use Rattle.isle_lsp_text.specs.declared.wholes.Part.{Part}
 
@@ -23,12 +22,10 @@ IsCut text from to cut = from ≤ to → IsCharBoundary text from → IsCharBoun
 abbrev pub IsPart : List ℕ → Part → List ℕ → Type 0
 IsPart text p part = (start : ℕ) × IsCommentsStart text p.from start × IsCut text start p.to part
 
--- The source of a definition, in a block, with the comments above it. A variant is written shorter than its name, which begins with
--- the name of its type.
+-- the source of a definition, in a block, with the comments above it
 abbrev pub IsShown : List ℕ → NameNode → Occurrence → List ℕ → Type 0
 IsShown text name o shown =
-    (lists : List ListSpan) × (part : List ℕ) × AreLists text lists
-    × IsPart text (whole_of text lists (nat_lt o.len (length (name_text name))) o.pos.offset o.len) part
+    (lists : List ListSpan) × (part : List ℕ) × AreLists text lists × IsPart text (extent_of text lists name o) part
     × (shown ≡ codes "```isle\n" ++ part ++ codes "\n```")
 
 -- the documentation of a definition, if its text is in the program

@@ -1,16 +1,15 @@
 -- The signature of the term that is called at a place, as JSON.
-use Rattle.std.specs.Prelude.{◌≡◌, ℕ, List, Bool, Option, None, Some, length, nat_lt, slice_get}
+use Rattle.std.specs.Prelude.{◌≡◌, ℕ, List, Option, None, Some, slice_get}
 use Rattle.serde_json.specs.Data.{Data, null}
 use Rattle.isle_index.specs.Occurrences.{definitions}
 use Rattle.isle_index.specs.declared.occurrences.Occurrence.{Occurrence}
-use Rattle.isle_lsp_features.specs.Located.{InOrder}
+use Rattle.isle_lsp_calls.specs.Items.{InOrder, extent_of, is_variant}
 use Rattle.isle_lsp_features.specs.Programs.{Text}
 use Rattle.isle_lsp_context.specs.Calls.{CallNode, IsCallAround}
 use Rattle.isle_lsp_context.specs.Signatures.{IsDeclarationHelp}
 use Rattle.isle_lsp_text.specs.Lists.{AreLists}
-use Rattle.isle_lsp_text.specs.Wholes.{whole_of}
 use Rattle.isle_lsp_text.specs.declared.lists.ListSpan.{ListSpan}
-use Rattle.isle_resolve.specs.Names.{NameNode, global, name_text}
+use Rattle.isle_resolve.specs.Names.{NameNode, global}
 use Rattle.isle_resolve.specs.Scopes.{SeenNode}
 use Rattle.isle_resolve.specs.declared.event.Kind.TheVariants as kinds
 
@@ -18,11 +17,10 @@ use Rattle.isle_resolve.specs.declared.event.Kind.TheVariants as kinds
 abbrev pub called : CallNode → NameNode
 called c = global kinds.Term c.head
 
--- The signature that a definition shows, at an argument. A variant is written shorter than its name, which begins with the name of its type.
+-- the signature that a definition shows, at an argument
 abbrev pub IsDeclared : List ℕ → NameNode → Occurrence → (argument : ℕ) → Data → Type 0
 IsDeclared text name o argument d =
-    let is_variant : Bool = nat_lt o.len (length (name_text name)) in
-    (lists : List ListSpan) × AreLists text lists × IsDeclarationHelp text (whole_of text lists is_variant o.pos.offset o.len) is_variant argument d
+    (lists : List ListSpan) × AreLists text lists × IsDeclarationHelp text (extent_of text lists name o) (is_variant name o) argument d
 
 -- the same of a definition in a text; null if that is not in the program
 abbrev pub IsSignatureIn : Option Text → NameNode → Occurrence → (argument : ℕ) → Data → Type 0

@@ -1,6 +1,6 @@
 //! The documentation of a name, for hover and for completions.
 
-ghost use Rattle.std.specs.Prelude.{◌≡◌, IfOk, Some, map, option_map, slice_get, string_bytes};
+ghost use Rattle.std.specs.Prelude.{◌≡◌, IfOk, Some, map, option_map, string_bytes};
 ghost use Rattle.serde_json.specs.View.{view};
 ghost use Rattle.isle_lsp_features.specs.Programs.{text_of};
 ghost use Rattle.isle_resolve.specs.Names.{named_of};
@@ -15,11 +15,11 @@ use crate::Text;
 use crate::completion::item_name;
 use crate::places::Place;
 use isle_index::{Index, Name, Occurrence};
+use isle_lsp_calls::items::extent_of;
 use isle_lsp_protocol::results::{hover_value, with_documentation};
 use isle_lsp_text::comments::comments_start;
 use isle_lsp_text::lists::lists;
 use isle_lsp_text::ranges::range_at;
-use isle_lsp_text::wholes::whole_of;
 use serde_json::Value;
 use std::alloc::{AllocError, Global};
 
@@ -123,21 +123,13 @@ fn documentation_at(
     ensures { IfOk result (λ shown. IsFirstShown (map text_of program.now)
         (named_of name.now) (Some definition) (option_map string_bytes shown)) }
 {
-    match source_at(program, definition.pos.file) {
+    match program.get(definition.pos.file) {
         Some(source) => {
             let shown = definition_text(alloc, source.text, name, definition)?;
             Ok(Some(shown))
         }
         None => Ok(None),
     }
-}
-
-/// The text with this number.
-pub fn source_at<'a>(program: &'a [Text<'a>], file: usize) -> Option<&'a Text<'a>>
-    ensures { option_map (λ s. text_of s.now) result
-        ≡ slice_get (map text_of program.now) file }
-{
-    program.get(file)
 }
 
 /// The source of a definition as a block of Markdown, with the comments above it.
@@ -151,9 +143,7 @@ fn definition_text(
         (λ shown. IsShown text.now (named_of name.now) definition (string_bytes shown)) }
 {
     let lists = lists(alloc, text)?;
-    let is_variant = definition.len < name.text().len();
-    let offset = definition.pos.offset;
-    let whole = whole_of(text, &lists, is_variant, offset, definition.len);
+    let whole = extent_of(text, &lists, name, definition);
     let start = comments_start(alloc, text, whole.from)?;
     let part = cut(text, start, whole.to);
     format!(in alloc; "```isle\n{part}\n```")

@@ -1,7 +1,6 @@
 //! The locations where names are implemented.
 
 ghost use Rattle.std.specs.Prelude.{◌≡◌, ◌++◌, IfOk, OnOk, List, filter, map};
-ghost use Rattle.std.specs.List.{list_any};
 ghost use Rattle.serde_json.specs.Data.{Data};
 ghost use Rattle.isle_index.specs.Held.{all_in};
 ghost use Rattle.isle_index.specs.Occurrences.{name_at};
@@ -11,12 +10,13 @@ ghost use Rattle.isle_lsp_features.specs.Implemented.{AreImplementations, AreImp
 ghost use Rattle.isle_lsp_features.specs.Implemented.{AreImplementationsIn};
 ghost use Rattle.isle_lsp_features.specs.Programs.{text_of};
 ghost use Rattle.isle_lsp_protocol.specs.Items.{item_data};
-ghost use Rattle.isle_resolve.specs.Names.{named_of};
 
 use crate::Text;
 use crate::locations::add_locations;
 use crate::places::Place;
-use isle_index::{Index, Kind, Name, Occurrence};
+use isle_index::{Index, Occurrence};
+use isle_lsp_calls::items::is_term;
+use isle_lsp_calls::ranges::has_some;
 use isle_lsp_protocol::items::Item;
 use isle_lsp_text::implementations::implemented;
 use std::alloc::{AllocError, Global};
@@ -39,16 +39,6 @@ pub fn implementations<'a>(
         }
         Some(_) => Ok(Some(Vec::new(alloc))),
         None => Ok(None),
-    }
-}
-
-/// Returns whether a name is that of a term.
-fn is_term(name: &Name) -> bool
-    ensures { result ≡ wanted.is_term (named_of name.now) }
-{
-    match name {
-        Name::Global { kind, .. } => matches!(kind, Kind::Term),
-        Name::Variable { .. } => false,
     }
 }
 
@@ -89,18 +79,6 @@ fn add_implementations<'a>(
     Ok(())
 }
 
-/// Returns whether one of these occurrences is in the text with this number.
-fn has_some(number: usize, found: &[Occurrence]) -> bool
-    ensures { result ≡ list_any (wanted.is_in number) found.now }
-{
-    for occurrence in found {
-        if occurrence.pos.file == number {
-            return true;
-        }
-    }
-    false
-}
-
 /// The occurrences in the text with this number that are at its marks.
 fn implementations_of(
     alloc: Global,
@@ -113,21 +91,9 @@ fn implementations_of(
 {
     let mut marked = Vec::new(alloc);
     for occurrence in found {
-        if occurrence.pos.file == number && is_marked(marks, occurrence.pos.offset) {
+        if occurrence.pos.file == number && marks.contains(&occurrence.pos.offset) {
             marked.push(*occurrence)?;
         }
     }
     Ok(marked)
-}
-
-/// Returns whether an offset is among these.
-fn is_marked(marks: &[usize], offset: usize) -> bool
-    ensures { result ≡ wanted.is_marked offset marks.now }
-{
-    for mark in marks {
-        if *mark == offset {
-            return true;
-        }
-    }
-    false
 }

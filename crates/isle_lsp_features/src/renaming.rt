@@ -18,7 +18,6 @@ ghost use Rattle.isle_lsp_protocol.specs.Replies.{outcome_of};
 ghost use Rattle.isle_lsp_protocol.specs.Results.{workspace_edit};
 ghost use Rattle.isle_lsp_text.specs.Positions.{IsPlace};
 
-use crate::hover::source_at;
 use crate::places::Place;
 use crate::{Question, Text};
 use isle_base::lexer::Pos;
@@ -196,7 +195,7 @@ fn are_glued(program: &[Text], name: &Name, places: &[Pos]) -> bool
 fn is_glued_at(program: &[Text], name: &Name, pos: Pos) -> bool
     ensures { result ≡ wanted.is_glued_at (map text_of program.now) (named_of name.now) pos }
 {
-    is_glued_text(source_at(program, pos.file), name, pos.offset)
+    is_glued_text(program.get(pos.file), name, pos.offset)
 }
 
 /// Returns whether the text of a name that is at an offset of a text directly follows a number.

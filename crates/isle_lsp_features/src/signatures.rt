@@ -10,13 +10,12 @@ ghost use Rattle.isle_lsp_context.specs.Calls.{call_of};
 ghost use Rattle.isle_resolve.specs.Names.{named_of};
 
 use crate::Text;
-use crate::hover::source_at;
 use crate::places::Place;
 use isle_index::{Index, Kind, Name, Occurrence};
+use isle_lsp_calls::items::{extent_of, is_variant};
 use isle_lsp_context::calls::{Call, call_around};
 use isle_lsp_context::signatures::declaration_help;
 use isle_lsp_text::lists::lists;
-use isle_lsp_text::wholes::whole_of;
 use serde_json::Value;
 use std::alloc::{AllocError, Global};
 
@@ -68,7 +67,7 @@ fn signature_at(
     ensures { IfOk result (λ value. IsFirstSignature (map text_of program.now)
         (named_of name.now) (Some definition) argument (view value)) }
 {
-    match source_at(program, definition.pos.file) {
+    match program.get(definition.pos.file) {
         Some(source) => declared(alloc, source.text, name, definition, argument),
         None => Ok(Value::Null),
     }
@@ -86,13 +85,6 @@ fn declared(
         (λ value. IsDeclared text.now (named_of name.now) definition argument (view value)) }
 {
     let lists = lists(alloc, text)?;
-    let is_variant = definition.len < name.text().len();
-    let part = whole_of(
-        text,
-        &lists,
-        is_variant,
-        definition.pos.offset,
-        definition.len,
-    );
-    declaration_help(alloc, text, part, is_variant, argument)
+    let part = extent_of(text, &lists, name, definition);
+    declaration_help(alloc, text, part, is_variant(name, definition), argument)
 }
