@@ -1,5 +1,5 @@
 -- The type of a variable, shown above what a hover shows of it.
-use Rattle.std.specs.Prelude.{◌≡◌, ℕ, ◌+◌, List, [], ◌∷◌, ◌++◌, Bool, ◌&&◌, Option, None, Some, codes, length, nat_le, option_and_then, option_map, bytes_eq, if◌then◌else◌}
+use Rattle.std.specs.Prelude.{◌≡◌, ℕ, ◌+◌, List, [], ◌∷◌, ◌++◌, Bool, false, true, ◌&&◌, Option, None, Some, codes, length, nat_le, option_and_then, option_map, bytes_eq, if◌then◌else◌}
 use Rattle.serde_json.specs.Data.{Data, object, put}
 use Rattle.serde_json.specs.Find.{as_str, get}
 use Rattle.isle_ast_names.specs.Tree.{Name}
@@ -9,6 +9,11 @@ use Rattle.isle_check_environment.specs.Names.{or_else}
 use Rattle.isle_check_environment.specs.signatures.Environment.{EnvironmentNode, environment}
 use Rattle.isle_check_typing.specs.Progress.{find}
 use Rattle.isle_lint_core.specs.Variables.{rule_variables}
+use Rattle.isle_lsp_context.specs.Offers.{names_of}
+use Rattle.isle_lsp_context.specs.Places.{IsSlotAt}
+use Rattle.isle_lsp_context.specs.declared.offers.Names.{Names}
+use Rattle.isle_lsp_context.specs.declared.offers.Names.TheVariants.{All, Nothing, Types, Terms, Values}
+use Rattle.isle_lsp_context.specs.declared.slot.Slot.{Slot}
 use Rattle.isle_lsp_features.specs.Places.{File, file_from}
 use Rattle.isle_lsp_features.specs.Programs.{Text}
 use Rattle.isle_lsp_protocol.specs.Results.{markdown}
@@ -85,11 +90,31 @@ typed_at env offset (r ∷ rs) = typed_or env r (mention_at offset r) (typed_at 
 abbrev pub type_in : File → (offset : ℕ) → List Definition → Option (List ℕ)
 type_in f offset ds = typed_at (environment ds) offset (typed_rules f ds)
 
+-- that at an offset of a file of a program
+abbrev pub IsTypeOf : List Text → File → (offset : ℕ) → Option (List ℕ) → Type 0
+IsTypeOf program f offset ty = (ds : List Definition) × AreDefinitions program ds × (ty ≡ type_in f offset ds)
+
+-- whether a rule mentions variables where these kinds of names may stand
+abbrev pub are_of_rules : Names → Bool
+are_of_rules Values = true
+are_of_rules All = false
+are_of_rules Nothing = false
+are_of_rules Types = false
+are_of_rules Terms = false
+
+abbrev pub IsTypeIf : (mentioned : Bool) → List Text → File → (offset : ℕ) → Option (List ℕ) → Type 0
+IsTypeIf false program f offset ty = ty ≡ None
+IsTypeIf true program f offset ty = IsTypeOf program f offset ty
+
+-- the same, if what may stand there is mentioned by rules
+abbrev pub IsTypeWhere : List Text → File → (offset : ℕ) → Option (List ℕ) → Type 0
+IsTypeWhere program f offset ty =
+    (slot : Slot) × IsSlotAt f.text offset slot × IsTypeIf (are_of_rules (names_of slot)) program f offset ty
+
 -- that at a position in a file of a program; without the file there is none
 abbrev pub IsTypeIn : List Text → Option File → Position → Option (List ℕ) → Type 0
 IsTypeIn program None position ty = ty ≡ None
-IsTypeIn program (Some f) position ty =
-    (ds : List Definition) × AreDefinitions program ds × (ty ≡ type_in f (offset_at position f.text) ds)
+IsTypeIn program (Some f) position ty = IsTypeWhere program f (offset_at position f.text) ty
 
 -- that at a position in a file, from the first of the programs that have it
 abbrev pub IsTypeAt : List (List Text) → (file : List ℕ) → Position → Option (List ℕ) → Type 0

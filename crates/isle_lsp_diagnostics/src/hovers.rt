@@ -11,8 +11,8 @@ ghost use Rattle.isle_check_environment.specs.signatures.Views.{environment_of};
 ghost use Rattle.isle_check_typing.specs.Views.{found_of};
 ghost use Rattle.isle_cli.specs.declared.failure.Failure.TheVariants.{Memory};
 ghost use Rattle.isle_lsp_diagnostics.specs.Hovers as wanted;
-ghost use Rattle.isle_lsp_diagnostics.specs.Hovers.{IsTypeAt, IsTypeIn, IsTypedHover};
-ghost use Rattle.isle_lsp_diagnostics.specs.Hovers.{IsTypedShown};
+ghost use Rattle.isle_lsp_diagnostics.specs.Hovers.{IsTypeAt, IsTypeIf, IsTypeIn, IsTypeOf};
+ghost use Rattle.isle_lsp_diagnostics.specs.Hovers.{IsTypeWhere, IsTypedHover, IsTypedShown};
 ghost use Rattle.isle_lsp_features.specs.Places as places;
 ghost use Rattle.isle_lsp_features.specs.Programs.{text_of};
 ghost use Rattle.isle_lsp_protocol.specs.Results.{markdown};
@@ -23,6 +23,8 @@ use isle_ast::ast::{Def, Ident, Rule};
 use isle_check_environment::signatures::Environment;
 use isle_check_typing::{Found, find};
 use isle_cli::failure::Failure;
+use isle_lsp_context::offers::{Names, names_of};
+use isle_lsp_context::places::slot_at;
 use isle_lsp_features::Text;
 use isle_lsp_features::places::{File, file_of};
 use isle_lsp_text::positions::{Position, offset_of};
@@ -162,8 +164,66 @@ fn type_of_file(
         (Some (places.file_of file.entry)) position (option_map string_bytes ty)) }
     ensures err { IfErr result (λ failure. failure ≡ Memory) }
 {
+    type_where(alloc, program, file, offset_of(file.text, position))
+}
+
+/// The typed variable at an offset of a file. Elsewhere than in patterns and expressions there is
+/// none, so nothing is parsed there.
+fn type_where(
+    alloc: Global,
+    program: &[Text],
+    file: File,
+    offset: usize,
+) -> Result<Option<String>, Failure>
+    ensures ok { IfOk result (λ ty. IsTypeWhere (map text_of program.now)
+        (places.file_of file.entry) offset (option_map string_bytes ty)) }
+    ensures err { IfErr result (λ failure. failure ≡ Memory) }
+{
+    let names = names_of(slot_at(alloc, file.text, offset)?);
+    type_if(alloc, are_of_rules(names), program, file, offset)
+}
+
+/// Returns whether a rule mentions variables where these kinds of names may stand.
+fn are_of_rules(names: Names) -> bool
+    ensures { result ≡ wanted.are_of_rules names }
+{
+    match names {
+        Names::Values => true,
+        Names::All | Names::Nothing | Names::Types | Names::Terms => false,
+    }
+}
+
+/// The typed variable at an offset of a file, if one may be mentioned there.
+fn type_if(
+    alloc: Global,
+    mentioned: bool,
+    program: &[Text],
+    file: File,
+    offset: usize,
+) -> Result<Option<String>, Failure>
+    ensures ok { IfOk result (λ ty. IsTypeIf mentioned (map text_of program.now)
+        (places.file_of file.entry) offset (option_map string_bytes ty)) }
+    ensures err { IfErr result (λ failure. failure ≡ Memory) }
+{
+    if mentioned {
+        return type_of(alloc, program, file, offset);
+    }
+    Ok(None)
+}
+
+/// The typed variable at an offset of a file of a program.
+fn type_of(
+    alloc: Global,
+    program: &[Text],
+    file: File,
+    offset: usize,
+) -> Result<Option<String>, Failure>
+    ensures ok { IfOk result (λ ty. IsTypeOf (map text_of program.now)
+        (places.file_of file.entry) offset (option_map string_bytes ty)) }
+    ensures err { IfErr result (λ failure. failure ≡ Memory) }
+{
     let reading = read(alloc, program)?;
-    let ty = type_in(alloc, &reading.defs, file, offset_of(file.text, position));
+    let ty = type_in(alloc, &reading.defs, file, offset);
     drop_reading(reading);
     Ok(ty?)
 }
