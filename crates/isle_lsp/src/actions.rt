@@ -3,7 +3,7 @@
 ghost use Rattle.std.specs.Prelude.{◌≡◌, IfErr, IfOk, map};
 ghost use Rattle.serde_json.specs.View.{view};
 ghost use Rattle.isle_cli.specs.declared.failure.Failure.TheVariants.{Memory};
-ghost use Rattle.isle_lsp_features.specs.Programs.{text_of};
+ghost use Rattle.isle_lsp_features.specs.Programs.{bytes_of, text_of};
 ghost use Rattle.isle_lsp_files.specs.Disks.{view_of};
 ghost use Rattle.isle_lsp_files.specs.Documents.{document_of};
 ghost use Rattle.isle_lsp_protocol.specs.Replies.{outcome_of};
@@ -69,10 +69,7 @@ fn actions_in<'a>(
 }
 
 /// The texts of programs.
-fn texts_of<'a>(
-    alloc: Global,
-    programs: &[Vec<Text<'a>>],
-) -> Result<Vec<Vec<&'a str>>, AllocError>
+fn texts_of<'a>(alloc: Global, programs: &[Vec<Text<'a>>]) -> Result<Vec<Vec<&'a str>>, AllocError>
     ensures { IfOk result (λ texts. map (λ p. map (λ t. t.now) p.items) texts.items
         ≡ serving.texts_of (map (λ p. map text_of p.items) programs.now)) }
 {
@@ -86,7 +83,7 @@ fn texts_of<'a>(
 /// The texts of a program.
 fn texts_in<'a>(alloc: Global, program: &[Text<'a>]) -> Result<Vec<&'a str>, AllocError>
     ensures { IfOk result (λ texts. map (λ t. t.now) texts.items
-        ≡ map (λ t. t.text) (map text_of program.now)) }
+        ≡ map bytes_of (map text_of program.now)) }
 {
     let mut texts = Vec::new(alloc);
     for text in program {

@@ -4,7 +4,7 @@ ghost use Rattle.std.specs.Prelude.{◌≡◌, IfErr, IfOk};
 ghost use Rattle.serde_json.specs.View.{view};
 ghost use Rattle.isle_cli.specs.declared.failure.Failure.TheVariants.{Memory};
 ghost use Rattle.isle_lsp_files.specs.Disks.{view_of};
-ghost use Rattle.isle_lsp_protocol.specs.Replies.{outcome_of};
+ghost use Rattle.isle_lsp_protocol.specs.Replies.{done, outcome_of};
 ghost use Rattle.isle_lsp.specs.Serving.{IsHover, IsNamed, IsTyped, held_of};
 
 use crate::server::Server;
@@ -72,14 +72,27 @@ fn with_type<'a>(
     ensures err { IfErr result (λ failure. failure ≡ Memory) }
 {
     match plain {
-        Outcome::Done(hover) => {
-            let file = shown.file.as_str();
-            let programs = programs_of(alloc, &server.documents, shown, file)?;
-            let position = position_of(message);
-            let typed = hover_with_type(alloc, &programs, file, position, &hover)?;
-            Ok(Outcome::Done(typed))
-        }
+        Outcome::Done(hover) => typed_hover(alloc, server, message, shown, &hover),
         Outcome::Listed(listing) => Ok(Outcome::Listed(listing)),
         Outcome::Failed(code, reason) => Ok(Outcome::Failed(code, reason)),
     }
+}
+
+/// A hover, with the type of the variable.
+fn typed_hover<'a>(
+    alloc: Global,
+    server: &Server,
+    message: &Value,
+    shown: &View,
+    hover: &Value,
+) -> Result<Outcome<'a>, Failure>
+    ensures ok { IfOk result (λ outcome. IsTyped (view message.now) (held_of server.now)
+        (view_of shown.now) (done (view hover.now)) (outcome_of outcome)) }
+    ensures err { IfErr result (λ failure. failure ≡ Memory) }
+{
+    let file = shown.file.as_str();
+    let programs = programs_of(alloc, &server.documents, shown, file)?;
+    let position = position_of(message);
+    let typed = hover_with_type(alloc, &programs, file, position, hover)?;
+    Ok(Outcome::Done(typed))
 }
