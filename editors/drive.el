@@ -86,6 +86,22 @@
 (rename-in-both "renamed_where_it_is_now" "h" "k")
 (tell "written" (with-temp-buffer (insert-file-contents "b.isle") (lines)))
 
+;; The type of a variable, and a use of an extractor that is expanded.
+(erase-buffer)
+(insert "(type T (primitive T))\n(decl f (T) T)\n(decl both (T T) T)\n(extern extractor both both)\n(decl pair (T T) T)\n"
+        "(extractor (pair a b) (both b a))\n(rule (f (pair x _)) x)\n")
+(eglot--signal-textDocument/didChange)
+(goto-char (point-min))
+(search-forward "pair x")
+(backward-char 1)
+(let (shown)
+  (eglot-hover-eldoc-function (lambda (text &rest _) (setq shown text)))
+  (wait (lambda () shown))
+  (tell "typed" (and shown (string-match "x : .*" shown) (substring-no-properties (match-string 0 shown)))))
+(backward-char 3)
+(eglot-code-actions (point) (point) "refactor.inline" t)
+(tell "expanded" (aref (lines) 6))
+
 ;; It fails where no answer comes.
 (eglot-shutdown (eglot-current-server))
 (tell "stopped" t)

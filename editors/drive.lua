@@ -71,13 +71,16 @@ local function shown()
     end
   end
 end
+local function close_floating()
+  for _, window in ipairs(vim.api.nvim_list_wins()) do
+    if vim.api.nvim_win_get_config(window).relative ~= "" then vim.api.nvim_win_close(window, true) end
+  end
+end
 at_use(vim.lsp.buf.hover)
 wait(shown)
 tell("hover", (shown() or ""):match("%(decl[^\n]*"))
 
-for _, window in ipairs(vim.api.nvim_list_wins()) do
-  if vim.api.nvim_win_get_config(window).relative ~= "" then vim.api.nvim_win_close(window, true) end
-end
+close_floating()
 vim.fn.search("twice \\zsw", "cw")
 vim.lsp.buf.signature_help()
 wait(shown)
@@ -130,6 +133,23 @@ vim.fn.search("(f", "cew")
 vim.api.nvim_win_set_cursor(0, { vim.fn.line("."), vim.fn.col(".") })
 local names = ask("textDocument/completion", vim.lsp.util.make_position_params())
 tell("resolved", ((ask("completionItem/resolve", (names.items or names)[1]) or {}).documentation or {}).value)
+
+-- The type of a variable, and a use of an extractor that the first code action expands.
+vim.api.nvim_buf_set_lines(0, 0, -1, true, {
+  "(type T (primitive T))", "(decl f (T) T)", "(decl both (T T) T)", "(extern extractor both both)", "(decl pair (T T) T)",
+  "(extractor (pair a b) (both b a))", "(rule (f (pair x _)) x)",
+})
+close_floating()
+vim.fn.search("pair \\zsx", "cw")
+vim.lsp.buf.hover()
+wait(shown)
+tell("typed", (shown() or ""):match("x : [^\n]*"))
+close_floating()
+vim.ui.select = function(items, _, choose) choose(items[1], 1) end
+vim.fn.search("(\\zspair x", "cw")
+vim.lsp.buf.code_action()
+wait(function() return vim.fn.search("pair x", "cnw") == 0 end)
+tell("expanded", lines()[7])
 
 local client = active_clients()[1].id
 vim.lsp.stop_client(client)
