@@ -32,6 +32,7 @@
       ("\\$\\(?:\\sw\\|\\s_\\)*" . font-lock-constant-face)
       (,(concat "\\_<[^ \t\r\n$0-9-]\\(?:\\sw\\|\\s_\\)*\\.\\(?:\\sw\\|\\s_\\)+") . font-lock-constant-face)
       ("\\_<-?[0-9][0-9A-Fa-f_xXoO]*\\_>" . font-lock-constant-face)
+      ("\\_<#\\(?:b[01]+\\|x[0-9A-Fa-f]+\\)\\_>" . font-lock-constant-face)
       ("\\_<\\(?:true\\|false\\|_\\)\\_>" . font-lock-constant-face)
       (,(concat "(" none "\\(" symbol "\\)") 1 font-lock-function-name-face)))
   "What `isle-mode' colours besides comments.")

@@ -19,6 +19,7 @@ syntax match isleType /\%((\_s*type\_s\+\)\@<=\k\+/
 syntax match isleVariant /[^[:blank:](@.;)$0-9-]\k*\.\k\+/
 syntax match isleConstant /\$\k*/
 syntax match isleNumber /\k\@1<!-\=\d[0-9A-Fa-f_xXoO]*/
+syntax match isleNumber /\k\@1<!#\%(b[01]\+\|x\x\+\)\k\@!/
 syntax match isleBoolean /\k\@1<!\%(true\|false\)\k\@!/
 syntax match isleWildcard /\k\@1<!_\k\@!/
 syntax match isleBinder /@/
