@@ -205,6 +205,11 @@ class Client:
             raise Wrong(f"{method} is refused: {answer['error'].get('message')}")
         return answer["result"]
 
+    def reported(self, uri):
+        """What is published of a document as it is, if anything is. The server answers in order, so a request waits for it."""
+        self.result("workspace/symbol", {"query": "no such name"})
+        return self.published.get(uri)
+
     # ---- documents
 
     def open(self, uri, text):

@@ -21,12 +21,35 @@ def arguments(text, least, most):
     return given
 
 
+def options(known):
+    """The values of options, which are taken out of the command line. `known` has what each is else; a number stays one."""
+    found = dict(known)
+    for name, usual in known.items():
+        if name in sys.argv:
+            at = sys.argv.index(name)
+            value = "".join(sys.argv[at + 1 : at + 2])
+            is_number = isinstance(usual, int)
+            if not (value.isdecimal() if is_number else value):
+                reject(f"{name} wants a {'number' if is_number else 'value'}")
+            found[name] = int(value) if is_number else value
+            del sys.argv[at : at + 2]
+    return found.values()
+
+
 def programs(given, built):
     """The programs that a script runs: those that it is given, and then those that are built. One that is given must be there."""
     for it in given:
         if not os.access(it, os.X_OK):
             reject(f"no program '{it}'")
     return [os.path.realpath(it) for it in [*given, *built[len(given) :]]]
+
+
+def skip_unless_built(*binaries):
+    """Ends the script with no test where one of these programs is not built."""
+    for it in binaries:
+        if not os.access(it, os.X_OK):
+            print(f"skipped: {os.path.basename(it).replace('_', '-')} is not built: ./build makes it\n0 passed, 0 failed")
+            sys.exit()
 
 
 def reject(why):
