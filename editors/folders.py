@@ -8,6 +8,7 @@ from client import path_of, read_text, uri_of
 from reading import reading
 
 CANON = re.compile(r" \(canon (?:\([^()]*\)|\w+)\)")  # a part of forms in older sources of Cranelift, left out of a copy
+FLAGS = ("pure", "multi", "partial", "rec")
 PROGRAMS = {
     "one": ["prelude.isle", "types.isle", "inst.isle", "lower", "made/absent.isle"],
     "two": ["prelude.isle", "extract*.isle", "opts", "types.isle"],
@@ -37,12 +38,11 @@ def folders_above(path, root):
         folder = os.path.dirname(folder)
 
 
+@functools.lru_cache(maxsize=64)
 def declared_in_lines(text):
     """The names that the lines declare which begin with `(decl `."""
-    for rest in re.findall(r"^\(decl ([^\n]*)", text, re.M):
-        words = [it for it in rest.split() if it not in ("pure", "multi", "partial", "rec")]
-        if words:
-            yield re.split(r"[();]", words[0])[0]
+    lines = ([it for it in rest.split() if it not in FLAGS] for rest in re.findall(r"^\(decl ([^\n]*)", text, re.M))
+    return [re.split(r"[();]", words[0])[0] for words in lines if words]
 
 
 def are_apart(one, other):
