@@ -1,5 +1,5 @@
 -- What the check of programs tells of one of their files.
-use Rattle.std.specs.Prelude.{◌≡◌, ℕ, ◌+◌, ◌-◌, ◌==◌, List, [], ◌∷◌, ◌++◌, Bool, false, Option, None, Some, drop, length, map, max, min, slice_get, string_bytes, if◌then◌else◌}
+use Rattle.std.specs.Prelude.{◌≡◌, ℕ, ◌+◌, ◌-◌, ◌==◌, ◌⊎◌, List, [], ◌∷◌, ◌++◌, Bool, false, Option, None, Some, drop, length, map, max, min, slice_get, string_bytes, if◌then◌else◌}
 use Rattle.std.specs.List.{flat_map, list_any, prefix_len}
 use Rattle.std.specs.Str.{bytes_eq}
 use Rattle.isle_base.specs.Spellings.{in_symbol}
@@ -11,7 +11,8 @@ use Rattle.isle_check_core.specs.FindingWords.{finding_notes, kind_words}
 use Rattle.isle_check_core.specs.Findings.{FindingNode, findings, is_error}
 use Rattle.isle_check_messages.specs.Notes.{NoteNode}
 use Rattle.isle_check_messages.specs.Words.{WordsNode}
-use Rattle.isle_program.specs.Reading.{IsReading, refused_count}
+use Rattle.isle_program.specs.Nesting.{FirstDeep}
+use Rattle.isle_program.specs.Reading.{IsDeepWith, IsReading, IsRefusedWith, refused_count}
 use Rattle.isle_lsp_features.specs.Programs.{Text}
 use Rattle.isle_lsp_diagnostics.specs.Marks.{Mark, check, is_same}
 use Rattle.isle_lsp_diagnostics.specs.declared.checks.Told.{Told as CodeTold}
@@ -77,12 +78,26 @@ sources_of program = map source_of program
 abbrev pub reading_told : List Definition → List (Option Error) → List Told
 reading_told ds refusals = if refused_count refusals == 0 then flat_map all_told (findings ds) else []
 
--- this is what the check of a program of these texts tells
-pub record AreTold (sources : List Source) (all : List Told) : Type 0 where
+-- a text is refused, as the file of some number: it spells no tree, or nests too deeply
+abbrev pub IsRefusedText : List ℕ → Type 0
+IsRefusedText text = (file : ℕ) × (e : Error) × ((FirstDeep text None × IsRefusedWith file text e) ⊎ IsDeepWith file text e)
+
+-- one of the texts is refused
+abbrev pub HasRefused : List Source → Type 0
+HasRefused [] = ⊥
+HasRefused (s ∷ ss) = IsRefusedText s.text ⊎ HasRefused ss
+
+-- each text has a tree, and this is what the findings of all tell
+pub record AreFound (sources : List Source) (all : List Told) : Type 0 where
   pub definitions : List Definition
   pub refusals : List (Option Error)
   pub read : IsReading sources definitions refusals
-  pub are : all ≡ reading_told definitions refusals
+  pub none_refused : refused_count refusals ≡ 0
+  pub are : all ≡ flat_map all_told (findings definitions)
+
+-- this is what the check of a program of these texts tells: if one of them is refused, nothing
+abbrev pub AreTold : (sources : List Source) → (all : List Told) → Type 0
+AreTold sources all = AreFound sources all ⊎ (HasRefused sources × (all ≡ []))
 
 -- a program that is checked: its texts, and what the check tells
 pub record CheckedProgram : Type 0 where

@@ -1,5 +1,5 @@
 -- The diagnostics of a text, on its own and in its programs.
-use Rattle.std.specs.Prelude.{◌≡◌, ℕ, ◌+◌, ◌-◌, ◌⊎◌, List, [], ◌∷◌, ◌++◌, None, filter, length, map, min, not, codes, string_bytes}
+use Rattle.std.specs.Prelude.{◌≡◌, ℕ, ◌+◌, ◌-◌, ◌⊎◌, Bool, true, false, List, [], ◌∷◌, ◌++◌, None, filter, length, map, min, not, codes, string_bytes}
 use Rattle.std.specs.List.{flat_map}
 use Rattle.std.specs.List.Sorted.{IsPermutation, IsSortedByKey}
 use Rattle.isle_ast.specs.Tree.{Definition}
@@ -76,6 +76,21 @@ AreRefusedMarks text marks = (rs : List Refusal) × AreRefusals text rs × (mark
 -- a text spells no tree, or nests too deeply
 abbrev pub IsRefused : List ℕ → Type 0
 IsRefused text = (e : errors.Error) × ((FirstDeep text None × IsRefusedWith 0 text e) ⊎ IsDeepWith 0 text e)
+
+-- the marks of what lints find in the tree of a text
+abbrev pub AreLintMarks : List ℕ → List Mark → Type 0
+AreLintMarks text marks = FirstDeep text None × ((ds : List Definition) × IsTreeOf 0 text ds × AreMarksOf text ds marks)
+
+-- the marks of a text by itself: if it is parsed of what lints find, and else of why it is refused
+abbrev pub AreOwnMarks : List ℕ → (is_parsed : Bool) → List Mark → Type 0
+AreOwnMarks text true marks = AreLintMarks text marks
+AreOwnMarks text false marks = IsRefused text × AreRefusedMarks text marks
+
+-- what is found in a text by itself
+pub record OwnMarks : Type 0 where
+  pub text : List ℕ
+  pub is_parsed : Bool
+  pub marks : List Mark
 
 -- the marks of any text, which is this file of the programs: of its tree, or why its pieces are refused
 abbrev pub AreMarks : (programs : List (List Text)) → (file text : List ℕ) → List Mark → Type 0

@@ -8,7 +8,7 @@ ghost use Rattle.isle_lsp_diagnostics.specs.Checked.{AreChecked, AreProgramMarks
 ghost use Rattle.isle_lsp_diagnostics.specs.Marks.{mark_of};
 
 use crate::checks::{Checks, Told};
-use crate::diagnostics::{Diagnostic, Finder};
+use crate::diagnostics::{Diagnostic, Finder, copy_of};
 use isle_base::lexer::{Pos, symbol_end};
 use isle_cli::failure::Failure;
 use isle_lsp_features::Text;
@@ -139,12 +139,7 @@ pub fn add_each_once(
 {
     for diagnostic in more {
         if !is_among(diagnostics, diagnostic) {
-            diagnostics.push(Diagnostic {
-                start: diagnostic.start,
-                end: diagnostic.end,
-                finder: diagnostic.finder,
-                message: diagnostic.message.clone()?,
-            })?;
+            diagnostics.push(copy_of(diagnostic)?)?;
         }
     }
     Ok(())

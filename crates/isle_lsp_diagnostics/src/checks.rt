@@ -1,4 +1,4 @@
-//! What is found in programs, kept from one message to the next.
+//! What is found in programs, and in texts by themselves, kept from one message to the next.
 
 ghost use Rattle.std.specs.Prelude.{◌≡◌, ◌++◌, IfErr, IfOk, IfSome, OnOk, false, map};
 ghost use Rattle.std.specs.Prelude.{true};
@@ -13,6 +13,7 @@ ghost use Rattle.isle_lsp_features.specs.Programs.{text_of};
 ghost use Rattle.isle_lsp_diagnostics.specs.Checked as wanted;
 ghost use Rattle.isle_lsp_diagnostics.specs.Checked.{AreTold, told_of};
 
+use crate::texts::Texts;
 use isle_base::lexer::Pos;
 use isle_check_core::{Finding, Note, check};
 use isle_cli::failure::Failure;
@@ -77,26 +78,31 @@ impl Checked {
     }
 }
 
-/// The programs that are checked. What a program of the same texts had is not looked for anew.
+/// The programs that are checked, and the texts that are parsed and linted by themselves. What a
+/// program of the same texts had, or an equal text, is not looked for anew.
 #[derive(Drop)]
 pub struct Checks {
-    /// Those that are needed for the message that is handled.
+    /// What is found in texts by themselves.
+    pub(crate) texts: Texts,
+    /// The programs that are needed for the message that is handled.
     current: Vec<Checked>,
-    /// Those that were needed for the message before.
+    /// The programs that were needed for the message before.
     last: Vec<Checked>,
 }
 
 impl Checks {
-    /// No program is checked.
+    /// No program is checked, and no text is parsed.
     pub fn new(alloc: Global) -> Checks {
         Checks {
+            texts: Texts::new(alloc),
             current: Vec::new(alloc),
             last: Vec::new(alloc),
         }
     }
 
-    /// Begins to handle another message: of the programs, those are kept that it needs too.
+    /// Begins to handle another message: of programs and texts, those are kept that it needs too.
     pub fn renew(&mut self, alloc: Global) {
+        self.texts.renew(alloc);
         self.last = mem::replace(&mut self.current, Vec::new(alloc));
     }
 
@@ -113,7 +119,7 @@ impl Checks {
         if let Some(checked) = take_from(&mut self.last, program)? {
             return Ok(checked);
         }
-        check_program(alloc, program)
+        check_program(alloc, &self.texts, program)
     }
 
     /// Puts a program back that is needed for the message that is handled.
@@ -164,17 +170,30 @@ fn is_source(source: &Source, text: &Text) -> bool
 
 /// Checks a program. Nothing is found in it if one of its texts does not parse. The only error is
 /// `Memory`.
-fn check_program(alloc: Global, program: &[Text]) -> Result<Checked, Failure>
+fn check_program(alloc: Global, texts: &Texts, program: &[Text]) -> Result<Checked, Failure>
     ensures ok { IfOk result (λ checked.
         AreTold (wanted.sources_of (map text_of program.now)) checked.all) }
     ensures err { IfErr result (λ failure. failure ≡ Memory) }
 {
     let sources = sources_of(alloc, program)?;
-    let reading = read_all(alloc, &sources)?;
+    let all = told_of_sources(alloc, texts, &sources)?;
+    Ok(Checked { sources, all })
+}
+
+/// What the check tells of a program of these texts. None is parsed if one is known not to parse.
+/// The only error is `Memory`.
+fn told_of_sources(alloc: Global, texts: &Texts, sources: &[Source]) -> Result<Vec<Told>, Failure>
+    ensures ok { IfOk result (λ all. AreTold (map source_of sources.now)
+        (map told_of all.items)) }
+    ensures err { IfErr result (λ failure. failure ≡ Memory) }
+{
+    if texts.refuse(sources) {
+        return Ok(Vec::new(alloc));
+    }
+    let reading = read_all(alloc, sources)?;
     let all = told_of_reading(alloc, &reading);
     drop_reading(reading);
-    let all = all?;
-    Ok(Checked { sources, all })
+    Ok(all?)
 }
 
 /// The texts of a program, without names.

@@ -4,8 +4,7 @@
 //!
 //! Lints see this text alone: of two rules with one name, in two files, none is found.
 
-ghost use Rattle.std.specs.Prelude.{◌≡◌, ◌++◌, ◌∷◌, [], IfErr, IfOk, filter, length, map};
-ghost use Rattle.std.specs.Prelude.{string_bytes};
+ghost use Rattle.std.specs.Prelude.{◌≡◌, ◌++◌, ◌∷◌, [], IfErr, IfOk, filter, length, map, true};
 ghost use Rattle.std.specs.List.{flat_map};
 ghost use Rattle.isle_ast.specs.TreeView.{definitions_of};
 ghost use Rattle.isle_base_source.specs.declared.error.Error as errors;
@@ -13,25 +12,21 @@ ghost use Rattle.isle_cli.specs.declared.failure.Failure.TheVariants.{Memory};
 ghost use Rattle.isle_lint_core.specs.Finding.{finding_of};
 ghost use Rattle.isle_lint_core.specs.Lint.{all_lints, is_default};
 ghost use Rattle.isle_lsp_features.specs.Programs.{text_of};
-ghost use Rattle.isle_lsp_diagnostics.specs.Checked.{AreChecked};
 ghost use Rattle.isle_lsp_diagnostics.specs.Diagnostics.{AreMarks, AreMarksOf, AreRefusedMarks};
-ghost use Rattle.isle_lsp_diagnostics.specs.Diagnostics.{AreTreeMarks, deep_mark, error_mark};
-ghost use Rattle.isle_lsp_diagnostics.specs.Diagnostics.{found_mark, refusal_marks};
-ghost use Rattle.isle_lsp_diagnostics.specs.Diagnostics.{shown};
+ghost use Rattle.isle_lsp_diagnostics.specs.Diagnostics.{deep_mark, error_mark, found_mark};
+ghost use Rattle.isle_lsp_diagnostics.specs.Diagnostics.{refusal_marks, shown};
 ghost use Rattle.isle_lsp_diagnostics.specs.Marks.{mark_of};
 
 use crate::checked::{add_each_once, check_diagnostics};
 use crate::checks::Checks;
+use crate::texts::Own;
 use isle_ast::ast::Def;
-use isle_base::lexer::Fault;
 use isle_base_source::error::Error;
 use isle_cli::failure::Failure;
 use isle_lint_core::{Finding, Lint, findings};
 use isle_lsp_features::Text;
 use isle_lsp_features::pieces::{Refusal, refusals};
-use isle_parser::dropping::drop_definitions;
 use isle_program::allowances::Allowances;
-use isle_program::trees::read_shallow_defs;
 use std::alloc::{AllocError, Global};
 
 /// Who found what a diagnostic tells.
@@ -81,20 +76,34 @@ pub fn diagnostics(
         file.now text.now (map mark_of found.items)) }
     ensures err { IfErr result (λ failure. failure ≡ Memory) }
 {
-    match read_shallow_defs(alloc, 0, text) {
-        Ok(defs) => {
-            let found = tree_diagnostics(alloc, checks, programs, file, text, &defs);
-            drop_definitions(defs);
-            found
-        }
-        Err(Fault::Error(_)) => refused_diagnostics(alloc, text),
-        Err(Fault::Failed | Fault::Memory) => Err(Failure::Memory),
+    let own = checks.texts.take(alloc, text)?;
+    let found = all_diagnostics(alloc, checks, programs, file, &own)?;
+    checks.texts.put(own)?;
+    Ok(found)
+}
+
+/// The diagnostics of a text, in which this is found by itself.
+fn all_diagnostics(
+    alloc: Global,
+    checks: &mut Checks,
+    programs: &[Vec<Text>],
+    file: &str,
+    own: &Own,
+) -> Result<Vec<Diagnostic>, Failure>
+    ensures ok { IfOk result (λ found. AreMarks (map (λ p. map text_of p.items) programs.now)
+        file.now own.now.text (map mark_of found.items)) }
+    ensures err { IfErr result (λ failure. failure ≡ Memory) }
+{
+    if own.is_parsed() {
+        tree_diagnostics(alloc, checks, programs, file, own)
+    } else {
+        Ok(copies(alloc, own.found())?)
     }
 }
 
 /// The diagnostics of a text that does not parse, or nests too deeply. What several pieces are
 /// refused with stands once.
-fn refused_diagnostics(alloc: Global, text: &str) -> Result<Vec<Diagnostic>, Failure>
+pub fn refused_diagnostics(alloc: Global, text: &str) -> Result<Vec<Diagnostic>, Failure>
     ensures ok { IfOk result (λ found. AreRefusedMarks text.now (map mark_of found.items)) }
     ensures err { IfErr result (λ failure. failure ≡ Memory) }
 {
@@ -153,24 +162,46 @@ fn deep_diagnostics(alloc: Global, text: &str, offset: usize) -> Result<Vec<Diag
     Ok(diagnostics)
 }
 
-/// The diagnostics of a text with these definitions.
+/// The diagnostics of a text that parses: what its programs tell, and then what lints find.
 fn tree_diagnostics(
     alloc: Global,
     checks: &mut Checks,
     programs: &[Vec<Text>],
     file: &str,
-    text: &str,
-    defs: &[Def],
+    own: &Own,
 ) -> Result<Vec<Diagnostic>, Failure>
-    ensures ok { IfOk result (λ found. AreTreeMarks
-        (map (λ p. map text_of p.items) programs.now) file.now text.now
-        (definitions_of defs.now) (map mark_of found.items)) }
+    requires { own.now.is_parsed ≡ true }
+    ensures ok { IfOk result (λ found. AreMarks (map (λ p. map text_of p.items) programs.now)
+        file.now own.now.text (map mark_of found.items)) }
     ensures err { IfErr result (λ failure. failure ≡ Memory) }
 {
-    let mut found = check_diagnostics(alloc, checks, programs, file, text)?;
-    let mut lints = lint_diagnostics(alloc, text, defs)?;
+    let mut found = check_diagnostics(alloc, checks, programs, file, own.text())?;
+    let mut lints = copies(alloc, own.found())?;
     found.append(&mut lints)?;
     Ok(found)
+}
+
+/// Copies of diagnostics.
+fn copies(alloc: Global, diagnostics: &[Diagnostic]) -> Result<Vec<Diagnostic>, AllocError>
+    ensures { IfOk result (λ made. map mark_of made.items ≡ map mark_of diagnostics.now) }
+{
+    let mut made = Vec::new(alloc);
+    for diagnostic in diagnostics {
+        made.push(copy_of(diagnostic)?)?;
+    }
+    Ok(made)
+}
+
+/// A copy of a diagnostic.
+pub fn copy_of(diagnostic: &Diagnostic) -> Result<Diagnostic, AllocError>
+    ensures { IfOk result (λ copy. mark_of copy ≡ mark_of diagnostic.now) }
+{
+    Ok(Diagnostic {
+        start: diagnostic.start,
+        end: diagnostic.end,
+        finder: diagnostic.finder,
+        message: diagnostic.message.clone()?,
+    })
 }
 
 /// The diagnostic of a parse error.
@@ -191,7 +222,11 @@ fn error_diagnostics(alloc: Global, text: &str, error: Error) -> Result<Vec<Diag
 }
 
 /// The diagnostics of the lints in a text with these definitions.
-fn lint_diagnostics(alloc: Global, text: &str, defs: &[Def]) -> Result<Vec<Diagnostic>, AllocError>
+pub fn lint_diagnostics(
+    alloc: Global,
+    text: &str,
+    defs: &[Def],
+) -> Result<Vec<Diagnostic>, AllocError>
     ensures { IfOk result (λ diagnostics. AreMarksOf text.now (definitions_of defs.now)
         (map mark_of diagnostics.items)) }
 {

@@ -11,6 +11,7 @@ mod hovers;
 mod mentions;
 mod published;
 mod rules;
+mod texts;
 
 pub use checks::Checks;
 pub use hints::inlay_hints;

@@ -1,0 +1,207 @@
+//! What is found in texts by themselves, kept from one message to the next.
+
+ghost use Rattle.std.specs.Prelude.{◌≡◌, IfErr, IfOk, IfSome, map, true};
+ghost use Rattle.isle_cli.specs.Sources.{source_of};
+ghost use Rattle.isle_cli.specs.declared.failure.Failure.TheVariants.{Memory};
+ghost use Rattle.isle_lsp_diagnostics.specs.Checked.{HasRefused, IsRefusedText};
+ghost use Rattle.isle_lsp_diagnostics.specs.Diagnostics.{AreOwnMarks};
+ghost use Rattle.isle_lsp_diagnostics.specs.Marks.{mark_of};
+
+use crate::diagnostics::{Diagnostic, lint_diagnostics, refused_diagnostics};
+use isle_base::lexer::Fault;
+use isle_cli::failure::Failure;
+use isle_cli::sources::Source;
+use isle_parser::dropping::drop_definitions;
+use isle_program::trees::read_shallow_defs;
+use std::alloc::{AllocError, Global};
+use std::marker::Model;
+use std::mem;
+
+/// What is found in a text by itself.
+#[derive(Drop)]
+pub struct Own {
+    text: String,
+    is_parsed: bool,
+    found: Vec<Diagnostic>,
+}
+
+impl Model for Own {
+    ghost use Rattle.std.specs.Prelude.{map, string_bytes};
+    ghost use Rattle.isle_lsp_diagnostics.specs.Diagnostics.{AreOwnMarks, OwnMarks};
+    ghost use Rattle.isle_lsp_diagnostics.specs.Marks.{mark_of};
+
+    ghost Value = { OwnMarks };
+
+    ghost view = { λ o. record {
+      text = string_bytes o.text;
+      is_parsed = o.is_parsed;
+      marks = map mark_of o.found.items;
+    } };
+
+    ghost invariant = { λ o. AreOwnMarks (string_bytes o.text) o.is_parsed
+        (map mark_of o.found.items) };
+}
+
+impl Own {
+    /// The text.
+    pub fn text(&self) -> &str
+        ensures { result.now ≡ self.now.text }
+    {
+        self.text.as_str()
+    }
+
+    /// Returns whether the text parses, and does not nest too deeply.
+    pub fn is_parsed(&self) -> bool
+        ensures { result ≡ self.now.is_parsed }
+    {
+        self.is_parsed
+    }
+
+    /// What lints find if the text parses, or else why it does not.
+    pub fn found(&self) -> &[Diagnostic]
+        ensures is { map mark_of result.now ≡ self.now.marks }
+        ensures exact { AreOwnMarks self.now.text self.now.is_parsed self.now.marks }
+    {
+        &self.found
+    }
+
+    /// Returns whether this is found in a text, which is refused.
+    fn refuses(&self, text: &str) -> bool
+        ensures { result ≡ true → IsRefusedText text.now }
+    {
+        !self.is_parsed && self.is_of(text)
+    }
+
+    /// Returns whether this is found in a text.
+    fn is_of(&self, text: &str) -> bool
+        ensures { result ≡ true → self.now.text ≡ text.now }
+    {
+        self.text.as_str() == text
+    }
+}
+
+/// What is found in texts by themselves. In a text that is kept nothing is looked for anew.
+#[derive(Drop)]
+pub struct Texts {
+    /// Those that are needed for the message that is handled.
+    current: Vec<Own>,
+    /// Those that were needed for the message before.
+    last: Vec<Own>,
+}
+
+impl Texts {
+    /// Nothing is kept.
+    pub fn new(alloc: Global) -> Texts {
+        Texts {
+            current: Vec::new(alloc),
+            last: Vec::new(alloc),
+        }
+    }
+
+    /// Begins to handle another message: of the texts, those are kept that it needs too.
+    pub fn renew(&mut self, alloc: Global) {
+        self.last = mem::replace(&mut self.current, Vec::new(alloc));
+    }
+
+    /// Takes out what is found in a text, which is parsed now if it is not kept. The only error is
+    /// `Memory`.
+    pub fn take(&mut self, alloc: Global, text: &str) -> Result<Own, Failure>
+        ensures ok { IfOk result (λ own. own.text ≡ text.now) }
+        ensures err { IfErr result (λ failure. failure ≡ Memory) }
+    {
+        if let Some(own) = take_from(&mut self.current, text)? {
+            return Ok(own);
+        }
+        if let Some(own) = take_from(&mut self.last, text)? {
+            return Ok(own);
+        }
+        own_of(alloc, text)
+    }
+
+    /// Returns whether one of these texts is kept, and refused.
+    pub fn refuse(&self, sources: &[Source]) -> bool
+        ensures { result ≡ true → HasRefused (map source_of sources.now) }
+    {
+        match sources {
+            [] => false,
+            [source, more @ ..] => self.refuses(source.text.as_str()) || self.refuse(more),
+        }
+    }
+
+    /// Returns whether a text is kept, and refused.
+    fn refuses(&self, text: &str) -> bool
+        ensures { result ≡ true → IsRefusedText text.now }
+    {
+        is_refused(&self.current, text) || is_refused(&self.last, text)
+    }
+
+    /// Puts back what is found in a text that is needed for the message that is handled.
+    pub fn put(&mut self, own: Own) -> Result<(), AllocError> {
+        self.current.push(own)?;
+        Ok(())
+    }
+}
+
+/// Returns whether a text is in a list, and refused.
+fn is_refused(list: &[Own], text: &str) -> bool
+    ensures { result ≡ true → IsRefusedText text.now }
+{
+    for own in list {
+        if own.refuses(text) {
+            return true;
+        }
+    }
+    false
+}
+
+/// Takes what is found in a text out of a list, if it is there. The others change places.
+fn take_from(list: &mut Vec<Own>, text: &str) -> Result<Option<Own>, AllocError>
+    ensures { IfOk result (λ taken. IfSome taken (λ own. own.text ≡ text.now)) }
+{
+    for _ in 0..list.len() {
+        if list.is_empty() {
+            return Ok(None);
+        }
+        let own = list.remove(0);
+        if own.is_of(text) {
+            return Ok(Some(own));
+        }
+        list.push(own)?;
+    }
+    Ok(None)
+}
+
+/// Looks for what is in a text by itself. The only error is `Memory`.
+fn own_of(alloc: Global, text: &str) -> Result<Own, Failure>
+    ensures ok { IfOk result (λ own. own.text ≡ text.now) }
+    ensures err { IfErr result (λ failure. failure ≡ Memory) }
+{
+    match read_shallow_defs(alloc, 0, text) {
+        Ok(defs) => {
+            let lints = lint_diagnostics(alloc, text, &defs);
+            drop_definitions(defs);
+            own_with(alloc, text, true, lints?)
+        }
+        Err(Fault::Error(_)) => own_with(alloc, text, false, refused_diagnostics(alloc, text)?),
+        Err(Fault::Failed | Fault::Memory) => Err(Failure::Memory),
+    }
+}
+
+/// Keeps what is found in a text. The only error is `Memory`.
+fn own_with(
+    alloc: Global,
+    text: &str,
+    is_parsed: bool,
+    found: Vec<Diagnostic>,
+) -> Result<Own, Failure>
+    requires { AreOwnMarks text.now is_parsed (map mark_of found.items) }
+    ensures ok { IfOk result (λ own. own.text ≡ text.now) }
+    ensures err { IfErr result (λ failure. failure ≡ Memory) }
+{
+    let text = String::from_str(alloc, text)?;
+    Ok(Own {
+        text,
+        is_parsed,
+        found,
+    })
+}
