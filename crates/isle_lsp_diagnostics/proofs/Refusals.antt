@@ -1,5 +1,5 @@
 -- What the check tells of a program's reading.
-use Rattle.std.proofs.Common.{◌≡◌, ◌==◌, ◌⊎◌, ℕ, ◌+◌, List, [], ◌∷◌, Option, Bool, true, false, ap, cc, cond, inl, inr, map, refl, subst, sym, ◌∙◌, arith}
+use Rattle.std.proofs.Common.{◌≡◌, ◌==◌, ℕ, ◌+◌, List, [], ◌∷◌, Option, Bool, true, false, ap, cond, inl, inr, map, refl, sym, ◌∙◌, rules}
 use Rattle.std.specs.List.{flat_map}
 use Rattle.isle_ast.specs.Tree.{Definition}
 use Rattle.isle_base_source.specs.Source.{Source}
@@ -14,8 +14,8 @@ outcomes-refused file [] [] each some = absurd (cc)
 outcomes-refused file [] (o ∷ os) each some = absurd each
 outcomes-refused file (s ∷ ss) [] each some = absurd each
 outcomes-refused file (s ∷ ss) (tree ds ∷ os) each some = inr (outcomes-refused (file + 1) ss os each.1 some)
-outcomes-refused file (s ∷ ss) (refusal e ∷ os) each some = inl (file, (e, inl each.0))
-outcomes-refused file (s ∷ ss) (too_deep e ∷ os) each some = inl (file, (e, inr each.0))
+outcomes-refused file (s ∷ ss) (refusal e ∷ os) each some = inl record { file = file; error = e; refused = inl each.0 }
+outcomes-refused file (s ∷ ss) (too_deep e ∷ os) each some = inl record { file = file; error = e; refused = inr each.0 }
 
 chosen : {A : Type 0} (b : Bool) (x y : A) → b ≡ true → cond b x y ≡ x
 chosen true x y is = refl
@@ -26,7 +26,7 @@ other true x y is = absurd (cc)
 other false x y is = refl
 
 none : (n : ℕ) → (n == 0) ≡ true → n ≡ 0
-none n is = omega (arith, is)
+none n is = search rules
 
 told-by : (sources : List Source) (ds : List Definition) (refusals : List (Option Error)) (all : List Told) (b : Bool) →
     (refused_count refusals == 0) ≡ b → IsReading sources ds refusals → all ≡ reading_told ds refusals → AreTold sources all

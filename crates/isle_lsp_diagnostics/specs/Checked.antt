@@ -78,9 +78,11 @@ sources_of program = map source_of program
 abbrev pub reading_told : List Definition → List (Option Error) → List Told
 reading_told ds refusals = if refused_count refusals == 0 then flat_map all_told (findings ds) else []
 
--- a text is refused, as the file of some number: it spells no tree, or nests too deeply
-abbrev pub IsRefusedText : List ℕ → Type 0
-IsRefusedText text = (file : ℕ) × (e : Error) × ((FirstDeep text None × IsRefusedWith file text e) ⊎ IsDeepWith file text e)
+-- a text spells no tree, or nests too deeply, whichever file it is
+pub record IsRefusedText (text : List ℕ) : Type 0 where
+  pub file : ℕ
+  pub error : Error
+  pub refused : (FirstDeep text None × IsRefusedWith file text error) ⊎ IsDeepWith file text error
 
 -- one of the texts is refused
 abbrev pub HasRefused : List Source → Type 0

@@ -81,15 +81,15 @@ IsRefused text = (e : errors.Error) × ((FirstDeep text None × IsRefusedWith 0 
 abbrev pub AreLintMarks : List ℕ → List Mark → Type 0
 AreLintMarks text marks = FirstDeep text None × ((ds : List Definition) × IsTreeOf 0 text ds × AreMarksOf text ds marks)
 
--- the marks of a text by itself: if it is parsed of what lints find, and else of why it is refused
-abbrev pub AreOwnMarks : List ℕ → (is_parsed : Bool) → List Mark → Type 0
-AreOwnMarks text true marks = AreLintMarks text marks
-AreOwnMarks text false marks = IsRefused text × AreRefusedMarks text marks
+-- the marks of a text by itself: of why it is refused, if it is, or else of what lints find
+abbrev pub AreOwnMarks : List ℕ → (is_refused : Bool) → List Mark → Type 0
+AreOwnMarks text true marks = IsRefused text × AreRefusedMarks text marks
+AreOwnMarks text false marks = AreLintMarks text marks
 
 -- what is found in a text by itself
 pub record OwnMarks : Type 0 where
   pub text : List ℕ
-  pub is_parsed : Bool
+  pub is_refused : Bool
   pub marks : List Mark
 
 -- the marks of any text, which is this file of the programs: of its tree, or why its pieces are refused

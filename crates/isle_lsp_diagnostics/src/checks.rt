@@ -13,7 +13,7 @@ ghost use Rattle.isle_lsp_features.specs.Programs.{text_of};
 ghost use Rattle.isle_lsp_diagnostics.specs.Checked as wanted;
 ghost use Rattle.isle_lsp_diagnostics.specs.Checked.{AreTold, told_of};
 
-use crate::texts::Texts;
+use crate::own::KeptTexts;
 use isle_base::lexer::Pos;
 use isle_check_core::{Finding, Note, check};
 use isle_cli::failure::Failure;
@@ -78,12 +78,12 @@ impl Checked {
     }
 }
 
-/// The programs that are checked, and the texts that are parsed and linted by themselves. What a
-/// program of the same texts had, or an equal text, is not looked for anew.
+/// The programs that are checked, and the texts that are parsed and linted by themselves. What is
+/// kept of a program with the same texts, or of an equal text, is not looked for again.
 #[derive(Drop)]
 pub struct Checks {
     /// What is found in texts by themselves.
-    pub(crate) texts: Texts,
+    pub(crate) texts: KeptTexts,
     /// The programs that are needed for the message that is handled.
     current: Vec<Checked>,
     /// The programs that were needed for the message before.
@@ -94,7 +94,7 @@ impl Checks {
     /// No program is checked, and no text is parsed.
     pub fn new(alloc: Global) -> Checks {
         Checks {
-            texts: Texts::new(alloc),
+            texts: KeptTexts::new(alloc),
             current: Vec::new(alloc),
             last: Vec::new(alloc),
         }
@@ -170,7 +170,7 @@ fn is_source(source: &Source, text: &Text) -> bool
 
 /// Checks a program. Nothing is found in it if one of its texts does not parse. The only error is
 /// `Memory`.
-fn check_program(alloc: Global, texts: &Texts, program: &[Text]) -> Result<Checked, Failure>
+fn check_program(alloc: Global, texts: &KeptTexts, program: &[Text]) -> Result<Checked, Failure>
     ensures ok { IfOk result (λ checked.
         AreTold (wanted.sources_of (map text_of program.now)) checked.all) }
     ensures err { IfErr result (λ failure. failure ≡ Memory) }
@@ -180,14 +180,18 @@ fn check_program(alloc: Global, texts: &Texts, program: &[Text]) -> Result<Check
     Ok(Checked { sources, all })
 }
 
-/// What the check tells of a program of these texts. None is parsed if one is known not to parse.
+/// What the check tells of a program of these texts. No text is parsed if one is known to be refused.
 /// The only error is `Memory`.
-fn told_of_sources(alloc: Global, texts: &Texts, sources: &[Source]) -> Result<Vec<Told>, Failure>
+fn told_of_sources(
+    alloc: Global,
+    texts: &KeptTexts,
+    sources: &[Source],
+) -> Result<Vec<Told>, Failure>
     ensures ok { IfOk result (λ all. AreTold (map source_of sources.now)
         (map told_of all.items)) }
     ensures err { IfErr result (λ failure. failure ≡ Memory) }
 {
-    if texts.refuse(sources) {
+    if texts.refuses_one(sources) {
         return Ok(Vec::new(alloc));
     }
     let reading = read_all(alloc, sources)?;

@@ -4,7 +4,7 @@
 //!
 //! Lints see this text alone: of two rules with one name, in two files, none is found.
 
-ghost use Rattle.std.specs.Prelude.{◌≡◌, ◌++◌, ◌∷◌, [], IfErr, IfOk, filter, length, map, true};
+ghost use Rattle.std.specs.Prelude.{◌≡◌, ◌++◌, ◌∷◌, [], IfErr, IfOk, false, filter, length, map};
 ghost use Rattle.std.specs.List.{flat_map};
 ghost use Rattle.isle_ast.specs.TreeView.{definitions_of};
 ghost use Rattle.isle_base_source.specs.declared.error.Error as errors;
@@ -19,7 +19,7 @@ ghost use Rattle.isle_lsp_diagnostics.specs.Marks.{mark_of};
 
 use crate::checked::{add_each_once, check_diagnostics};
 use crate::checks::Checks;
-use crate::texts::Own;
+use crate::own::OwnDiagnostics;
 use isle_ast::ast::Def;
 use isle_base_source::error::Error;
 use isle_cli::failure::Failure;
@@ -82,22 +82,22 @@ pub fn diagnostics(
     Ok(found)
 }
 
-/// The diagnostics of a text, in which this is found by itself.
+/// The diagnostics of a text, from what is found in it by itself.
 fn all_diagnostics(
     alloc: Global,
     checks: &mut Checks,
     programs: &[Vec<Text>],
     file: &str,
-    own: &Own,
+    own: &OwnDiagnostics,
 ) -> Result<Vec<Diagnostic>, Failure>
     ensures ok { IfOk result (λ found. AreMarks (map (λ p. map text_of p.items) programs.now)
         file.now own.now.text (map mark_of found.items)) }
     ensures err { IfErr result (λ failure. failure ≡ Memory) }
 {
-    if own.is_parsed() {
-        tree_diagnostics(alloc, checks, programs, file, own)
-    } else {
+    if own.is_refused() {
         Ok(copies(alloc, own.found())?)
+    } else {
+        tree_diagnostics(alloc, checks, programs, file, own)
     }
 }
 
@@ -168,9 +168,9 @@ fn tree_diagnostics(
     checks: &mut Checks,
     programs: &[Vec<Text>],
     file: &str,
-    own: &Own,
+    own: &OwnDiagnostics,
 ) -> Result<Vec<Diagnostic>, Failure>
-    requires { own.now.is_parsed ≡ true }
+    requires { own.now.is_refused ≡ false }
     ensures ok { IfOk result (λ found. AreMarks (map (λ p. map text_of p.items) programs.now)
         file.now own.now.text (map mark_of found.items)) }
     ensures err { IfErr result (λ failure. failure ≡ Memory) }

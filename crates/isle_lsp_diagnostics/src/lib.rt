@@ -9,9 +9,9 @@ mod diagnostics;
 mod hints;
 mod hovers;
 mod mentions;
+mod own;
 mod published;
 mod rules;
-mod texts;
 
 pub use checks::Checks;
 pub use hints::inlay_hints;

@@ -1,4 +1,4 @@
-//! What is found in texts by themselves, kept from one message to the next.
+//! What is found in a text by itself, kept from one message to the next.
 
 ghost use Rattle.std.specs.Prelude.{◌≡◌, IfErr, IfOk, IfSome, map, true};
 ghost use Rattle.isle_cli.specs.Sources.{source_of};
@@ -19,13 +19,13 @@ use std::mem;
 
 /// What is found in a text by itself.
 #[derive(Drop)]
-pub struct Own {
+pub struct OwnDiagnostics {
     text: String,
-    is_parsed: bool,
+    is_refused: bool,
     found: Vec<Diagnostic>,
 }
 
-impl Model for Own {
+impl Model for OwnDiagnostics {
     ghost use Rattle.std.specs.Prelude.{map, string_bytes};
     ghost use Rattle.isle_lsp_diagnostics.specs.Diagnostics.{AreOwnMarks, OwnMarks};
     ghost use Rattle.isle_lsp_diagnostics.specs.Marks.{mark_of};
@@ -34,15 +34,15 @@ impl Model for Own {
 
     ghost view = { λ o. record {
       text = string_bytes o.text;
-      is_parsed = o.is_parsed;
+      is_refused = o.is_refused;
       marks = map mark_of o.found.items;
     } };
 
-    ghost invariant = { λ o. AreOwnMarks (string_bytes o.text) o.is_parsed
+    ghost invariant = { λ o. AreOwnMarks (string_bytes o.text) o.is_refused
         (map mark_of o.found.items) };
 }
 
-impl Own {
+impl OwnDiagnostics {
     /// The text.
     pub fn text(&self) -> &str
         ensures { result.now ≡ self.now.text }
@@ -50,29 +50,29 @@ impl Own {
         self.text.as_str()
     }
 
-    /// Returns whether the text parses, and does not nest too deeply.
-    pub fn is_parsed(&self) -> bool
-        ensures { result ≡ self.now.is_parsed }
+    /// Returns whether the text does not parse, or nests too deeply.
+    pub fn is_refused(&self) -> bool
+        ensures { result ≡ self.now.is_refused }
     {
-        self.is_parsed
+        self.is_refused
     }
 
-    /// What lints find if the text parses, or else why it does not.
+    /// Why the text is refused, if it is, or else what lints find in it.
     pub fn found(&self) -> &[Diagnostic]
         ensures is { map mark_of result.now ≡ self.now.marks }
-        ensures exact { AreOwnMarks self.now.text self.now.is_parsed self.now.marks }
+        ensures exact { AreOwnMarks self.now.text self.now.is_refused self.now.marks }
     {
         &self.found
     }
 
-    /// Returns whether this is found in a text, which is refused.
+    /// Returns whether this is what is found in a text, and the text is refused.
     fn refuses(&self, text: &str) -> bool
         ensures { result ≡ true → IsRefusedText text.now }
     {
-        !self.is_parsed && self.is_of(text)
+        self.is_refused && self.is_of(text)
     }
 
-    /// Returns whether this is found in a text.
+    /// Returns whether this is what is found in a text.
     fn is_of(&self, text: &str) -> bool
         ensures { result ≡ true → self.now.text ≡ text.now }
     {
@@ -80,19 +80,19 @@ impl Own {
     }
 }
 
-/// What is found in texts by themselves. In a text that is kept nothing is looked for anew.
+/// What is found in texts by themselves. A text that is kept is not parsed and linted again.
 #[derive(Drop)]
-pub struct Texts {
+pub struct KeptTexts {
     /// Those that are needed for the message that is handled.
-    current: Vec<Own>,
+    current: Vec<OwnDiagnostics>,
     /// Those that were needed for the message before.
-    last: Vec<Own>,
+    last: Vec<OwnDiagnostics>,
 }
 
-impl Texts {
+impl KeptTexts {
     /// Nothing is kept.
-    pub fn new(alloc: Global) -> Texts {
-        Texts {
+    pub fn new(alloc: Global) -> KeptTexts {
+        KeptTexts {
             current: Vec::new(alloc),
             last: Vec::new(alloc),
         }
@@ -105,7 +105,7 @@ impl Texts {
 
     /// Takes out what is found in a text, which is parsed now if it is not kept. The only error is
     /// `Memory`.
-    pub fn take(&mut self, alloc: Global, text: &str) -> Result<Own, Failure>
+    pub fn take(&mut self, alloc: Global, text: &str) -> Result<OwnDiagnostics, Failure>
         ensures ok { IfOk result (λ own. own.text ≡ text.now) }
         ensures err { IfErr result (λ failure. failure ≡ Memory) }
     {
@@ -119,12 +119,12 @@ impl Texts {
     }
 
     /// Returns whether one of these texts is kept, and refused.
-    pub fn refuse(&self, sources: &[Source]) -> bool
+    pub fn refuses_one(&self, sources: &[Source]) -> bool
         ensures { result ≡ true → HasRefused (map source_of sources.now) }
     {
         match sources {
             [] => false,
-            [source, more @ ..] => self.refuses(source.text.as_str()) || self.refuse(more),
+            [source, more @ ..] => self.refuses(source.text.as_str()) || self.refuses_one(more),
         }
     }
 
@@ -132,18 +132,18 @@ impl Texts {
     fn refuses(&self, text: &str) -> bool
         ensures { result ≡ true → IsRefusedText text.now }
     {
-        is_refused(&self.current, text) || is_refused(&self.last, text)
+        has_refused(&self.current, text) || has_refused(&self.last, text)
     }
 
     /// Puts back what is found in a text that is needed for the message that is handled.
-    pub fn put(&mut self, own: Own) -> Result<(), AllocError> {
+    pub fn put(&mut self, own: OwnDiagnostics) -> Result<(), AllocError> {
         self.current.push(own)?;
         Ok(())
     }
 }
 
 /// Returns whether a text is in a list, and refused.
-fn is_refused(list: &[Own], text: &str) -> bool
+fn has_refused(list: &[OwnDiagnostics], text: &str) -> bool
     ensures { result ≡ true → IsRefusedText text.now }
 {
     for own in list {
@@ -155,7 +155,10 @@ fn is_refused(list: &[Own], text: &str) -> bool
 }
 
 /// Takes what is found in a text out of a list, if it is there. The others change places.
-fn take_from(list: &mut Vec<Own>, text: &str) -> Result<Option<Own>, AllocError>
+fn take_from(
+    list: &mut Vec<OwnDiagnostics>,
+    text: &str,
+) -> Result<Option<OwnDiagnostics>, AllocError>
     ensures { IfOk result (λ taken. IfSome taken (λ own. own.text ≡ text.now)) }
 {
     for _ in 0..list.len() {
@@ -171,8 +174,8 @@ fn take_from(list: &mut Vec<Own>, text: &str) -> Result<Option<Own>, AllocError>
     Ok(None)
 }
 
-/// Looks for what is in a text by itself. The only error is `Memory`.
-fn own_of(alloc: Global, text: &str) -> Result<Own, Failure>
+/// Parses a text, and finds what is in it by itself. The only error is `Memory`.
+fn own_of(alloc: Global, text: &str) -> Result<OwnDiagnostics, Failure>
     ensures ok { IfOk result (λ own. own.text ≡ text.now) }
     ensures err { IfErr result (λ failure. failure ≡ Memory) }
 {
@@ -180,28 +183,28 @@ fn own_of(alloc: Global, text: &str) -> Result<Own, Failure>
         Ok(defs) => {
             let lints = lint_diagnostics(alloc, text, &defs);
             drop_definitions(defs);
-            own_with(alloc, text, true, lints?)
+            own_with(alloc, text, false, lints?)
         }
-        Err(Fault::Error(_)) => own_with(alloc, text, false, refused_diagnostics(alloc, text)?),
+        Err(Fault::Error(_)) => own_with(alloc, text, true, refused_diagnostics(alloc, text)?),
         Err(Fault::Failed | Fault::Memory) => Err(Failure::Memory),
     }
 }
 
-/// Keeps what is found in a text. The only error is `Memory`.
+/// What is found in a text, with a copy of it. The only error is `Memory`.
 fn own_with(
     alloc: Global,
     text: &str,
-    is_parsed: bool,
+    is_refused: bool,
     found: Vec<Diagnostic>,
-) -> Result<Own, Failure>
-    requires { AreOwnMarks text.now is_parsed (map mark_of found.items) }
+) -> Result<OwnDiagnostics, Failure>
+    requires { AreOwnMarks text.now is_refused (map mark_of found.items) }
     ensures ok { IfOk result (λ own. own.text ≡ text.now) }
     ensures err { IfErr result (λ failure. failure ≡ Memory) }
 {
     let text = String::from_str(alloc, text)?;
-    Ok(Own {
+    Ok(OwnDiagnostics {
         text,
-        is_parsed,
+        is_refused,
         found,
     })
 }
