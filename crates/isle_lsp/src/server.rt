@@ -75,7 +75,7 @@ impl Server {
 pub struct Kept {
     /// The indexes of the programs that were asked about last.
     pub gathered: Gathered,
-    /// What was found in the programs that were checked last.
+    /// What was found last in documents and in their programs.
     pub checks: Checks,
 }
 
