@@ -14,6 +14,9 @@ COUNT = "error 2:17 argument-count Incorrect argument count for term 'shared': g
 LOWER = "(decl lower (T) T)\n"
 ONLY = "(decl only (T) T)\n(extern constructor only only)\n"
 NOT_THERE = "error 5:19 unknown-term Unknown term in expression: 'only'"
+UNUSED = "warning {line}:22 unused-let unused variable 'y'"
+WITH_LET = RIGHT.replace(") x)", ") (let ((y T x)) (made)))")
+WRONG_IN_LET = WRONG_TYPE.replace("1:15", "{line}:30")
 ABSENT = TOML.replace(', "made/absent.isle"', "")
 
 CHECKED = [
@@ -174,6 +177,35 @@ CHECKED = [
             ("whole", "a.isle", DECLARED),
             ("insert", "b.isle", "made", " "),
             ("diagnostics", "b.isle", WRONG_TYPE),
+        ],
+    ),
+    Case(
+        "checking: what lints find in a document stays while another one of its program does not parse",
+        {"a.isle": DECLARED, "b.isle": WITH_LET},
+        [
+            ("open", "b.isle"),
+            ("open", "a.isle"),
+            ("diagnostics", "b.isle", WRONG_IN_LET.format(line=1), UNUSED.format(line=1)),
+            ("whole", "a.isle", DECLARED + "("),
+            ("diagnostics", "b.isle", UNUSED.format(line=1)),
+            ("whole", "b.isle", "\n" + WITH_LET),
+            ("diagnostics", "b.isle", UNUSED.format(line=2)),
+            ("whole", "a.isle", DECLARED),
+            ("diagnostics", "b.isle", WRONG_IN_LET.format(line=2), UNUSED.format(line=2)),
+        ],
+    ),
+    Case(
+        "checking: two documents with one text, of which one changes",
+        {"a.isle": WITH_LET, "b.isle": WITH_LET, "isle.toml": '[[program]]\nname = "none"\nfiles = ["c.isle"]\n'},
+        [
+            ("open", "a.isle"),
+            ("open", "b.isle"),
+            ("diagnostics", "a.isle", UNUSED.format(line=1)),
+            ("diagnostics", "b.isle", UNUSED.format(line=1)),
+            ("whole", "b.isle", RIGHT),
+            ("diagnostics", "b.isle"),
+            ("insert", "a.isle", "made", " "),
+            ("diagnostics", "a.isle", UNUSED.format(line=1)),
         ],
     ),
     Case(
