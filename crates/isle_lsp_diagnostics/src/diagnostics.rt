@@ -4,7 +4,7 @@
 //!
 //! Lints see this text alone: of two rules with one name, in two files, none is found.
 
-ghost use Rattle.std.specs.Prelude.{◌≡◌, ◌++◌, ◌∷◌, [], IfErr, IfOk, false, filter, length, map};
+ghost use Rattle.std.specs.Prelude.{◌≡◌, ◌++◌, ◌∷◌, [], IfErr, IfOk, OnOk, filter, length, map};
 ghost use Rattle.std.specs.List.{flat_map};
 ghost use Rattle.isle_ast.specs.TreeView.{definitions_of};
 ghost use Rattle.isle_base_source.specs.declared.error.Error as errors;
@@ -82,7 +82,8 @@ pub fn diagnostics(
     Ok(found)
 }
 
-/// The diagnostics of a text, from what is found in it by itself.
+/// The diagnostics of a text, from what is found in it by itself: before what lints find stands what
+/// its programs tell.
 fn all_diagnostics(
     alloc: Global,
     checks: &mut Checks,
@@ -94,11 +95,12 @@ fn all_diagnostics(
         file.now own.now.text (map mark_of found.items)) }
     ensures err { IfErr result (λ failure. failure ≡ Memory) }
 {
-    if own.is_refused() {
-        Ok(copies(alloc, own.found())?)
-    } else {
-        tree_diagnostics(alloc, checks, programs, file, own)
+    let mut found = Vec::new(alloc);
+    if !own.is_refused() {
+        found = check_diagnostics(alloc, checks, programs, file, own.text())?;
     }
+    add_copies(own.found(), &mut found)?;
+    Ok(found)
 }
 
 /// The diagnostics of a text that does not parse, or nests too deeply. What several pieces are
@@ -162,34 +164,15 @@ fn deep_diagnostics(alloc: Global, text: &str, offset: usize) -> Result<Vec<Diag
     Ok(diagnostics)
 }
 
-/// The diagnostics of a text that parses: what its programs tell, and then what lints find.
-fn tree_diagnostics(
-    alloc: Global,
-    checks: &mut Checks,
-    programs: &[Vec<Text>],
-    file: &str,
-    own: &OwnDiagnostics,
-) -> Result<Vec<Diagnostic>, Failure>
-    requires { own.now.is_refused ≡ false }
-    ensures ok { IfOk result (λ found. AreMarks (map (λ p. map text_of p.items) programs.now)
-        file.now own.now.text (map mark_of found.items)) }
-    ensures err { IfErr result (λ failure. failure ≡ Memory) }
+/// Adds copies of diagnostics to others.
+fn add_copies(more: &[Diagnostic], diagnostics: &mut Vec<Diagnostic>) -> Result<(), AllocError>
+    ensures { OnOk result (map mark_of diagnostics.new.items
+        ≡ map mark_of diagnostics.old.items ++ map mark_of more.now) }
 {
-    let mut found = check_diagnostics(alloc, checks, programs, file, own.text())?;
-    let mut lints = copies(alloc, own.found())?;
-    found.append(&mut lints)?;
-    Ok(found)
-}
-
-/// Copies of diagnostics.
-fn copies(alloc: Global, diagnostics: &[Diagnostic]) -> Result<Vec<Diagnostic>, AllocError>
-    ensures { IfOk result (λ made. map mark_of made.items ≡ map mark_of diagnostics.now) }
-{
-    let mut made = Vec::new(alloc);
-    for diagnostic in diagnostics {
-        made.push(copy_of(diagnostic)?)?;
+    for diagnostic in more {
+        diagnostics.push(copy_of(diagnostic)?)?;
     }
-    Ok(made)
+    Ok(())
 }
 
 /// A copy of a diagnostic.
