@@ -113,10 +113,10 @@ impl Checks {
             AreTold (wanted.sources_of (map text_of program.now)) checked.all) }
         ensures err { IfErr result (λ failure. failure ≡ Memory) }
     {
-        if let Some(checked) = take_from(&mut self.current, program)? {
+        if let Some(checked) = take_from(&mut self.current, program) {
             return Ok(checked);
         }
-        if let Some(checked) = take_from(&mut self.last, program)? {
+        if let Some(checked) = take_from(&mut self.last, program) {
             return Ok(checked);
         }
         check_program(alloc, &self.texts, program)
@@ -129,22 +129,17 @@ impl Checks {
     }
 }
 
-/// Takes a program with these texts out of a list, if there is one. The others change places.
-fn take_from(list: &mut Vec<Checked>, program: &[Text]) -> Result<Option<Checked>, AllocError>
-    ensures { IfOk result (λ taken. IfSome taken (λ checked.
-        AreTold (wanted.sources_of (map text_of program.now)) checked.all)) }
+/// Takes a program with these texts out of a list, if there is one.
+fn take_from(list: &mut Vec<Checked>, program: &[Text]) -> Option<Checked>
+    ensures { IfSome result (λ checked.
+        AreTold (wanted.sources_of (map text_of program.now)) checked.all) }
 {
-    for _ in 0..list.len() {
-        if list.is_empty() {
-            return Ok(None);
+    for at in 0..list.len() {
+        if list[at].is_of(program) {
+            return Some(list.remove(at));
         }
-        let checked = list.remove(0);
-        if checked.is_of(program) {
-            return Ok(Some(checked));
-        }
-        list.push(checked)?;
     }
-    Ok(None)
+    None
 }
 
 /// Returns whether these are the texts of a program, without names.

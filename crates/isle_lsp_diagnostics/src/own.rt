@@ -109,10 +109,10 @@ impl KeptTexts {
         ensures ok { IfOk result (λ own. own.text ≡ text.now) }
         ensures err { IfErr result (λ failure. failure ≡ Memory) }
     {
-        if let Some(own) = take_from(&mut self.current, text)? {
+        if let Some(own) = take_from(&mut self.current, text) {
             return Ok(own);
         }
-        if let Some(own) = take_from(&mut self.last, text)? {
+        if let Some(own) = take_from(&mut self.last, text) {
             return Ok(own);
         }
         own_of(alloc, text)
@@ -154,24 +154,16 @@ fn has_refused(list: &[OwnDiagnostics], text: &str) -> bool
     false
 }
 
-/// Takes what is found in a text out of a list, if it is there. The others change places.
-fn take_from(
-    list: &mut Vec<OwnDiagnostics>,
-    text: &str,
-) -> Result<Option<OwnDiagnostics>, AllocError>
-    ensures { IfOk result (λ taken. IfSome taken (λ own. own.text ≡ text.now)) }
+/// Takes what is found in a text out of a list, if it is there.
+fn take_from(list: &mut Vec<OwnDiagnostics>, text: &str) -> Option<OwnDiagnostics>
+    ensures { IfSome result (λ own. own.text ≡ text.now) }
 {
-    for _ in 0..list.len() {
-        if list.is_empty() {
-            return Ok(None);
+    for at in 0..list.len() {
+        if list[at].is_of(text) {
+            return Some(list.remove(at));
         }
-        let own = list.remove(0);
-        if own.is_of(text) {
-            return Ok(Some(own));
-        }
-        list.push(own)?;
     }
-    Ok(None)
+    None
 }
 
 /// Parses a text, and finds what is in it by itself. The only error is `Memory`.
