@@ -17,7 +17,7 @@ outcomes-refused file (s ∷ ss) (tree ds ∷ os) each some = inr (outcomes-refu
 outcomes-refused file (s ∷ ss) (refusal e ∷ os) each some = inl record { file = file; error = e; refused = inl each.0 }
 outcomes-refused file (s ∷ ss) (too_deep e ∷ os) each some = inl record { file = file; error = e; refused = inr each.0 }
 
-chosen : {A : Type 0} (b : Bool) (x y : A) → b ≡ true → cond b x y ≡ x
+pub chosen : {A : Type 0} (b : Bool) (x y : A) → b ≡ true → cond b x y ≡ x
 chosen true x y is = refl
 chosen false x y is = absurd (cc)
 

@@ -1,15 +1,12 @@
-use Rattle.std.proofs.Common.{◌≡◌, ◌==◌, Bool, IfOk, [], ap, cond, false, map, refl, subst, sym, true, ◌∙◌, arith}
+use Rattle.std.proofs.Common.{◌≡◌, ◌==◌, IfOk, [], ap, map, subst, sym, true, ◌∙◌, arith}
 use Rattle.std.specs.List.{flat_map}
 use Rattle.isle_ast.specs.TreeView.{definitions_of}
 use Rattle.isle_check_core.specs.Findings.{findings}
 use Rattle.isle_check_core.specs.Views.{findings_of}
 use Rattle.isle_program.specs.Reading.{refused_count}
 use Rattle.isle_lsp_diagnostics.specs.Checked.{all_told, told_of}
+use Rattle.isle_lsp_diagnostics.proofs.Refusals.{chosen}
 use Rattle.isle_lsp_diagnostics.proofs.checks.told_of_reading.Goals as goal
-
-chosen : {A : Type 0} (b : Bool) (x y : A) → b ≡ true → cond b x y ≡ x
-chosen true x y is = refl
-chosen false x y is = absurd (cc)
 
 pub returns : goal.returns
 returns c =
