@@ -175,8 +175,8 @@ fn check_program(alloc: Global, texts: &KeptTexts, program: &[Text]) -> Result<C
     Ok(Checked { sources, all })
 }
 
-/// What the check tells of a program of these texts. No text is parsed if one is known to be refused.
-/// The only error is `Memory`.
+/// What the check tells of a program of these texts. No text is parsed if one is known to be
+/// refused. The only error is `Memory`.
 fn told_of_sources(
     alloc: Global,
     texts: &KeptTexts,

@@ -82,8 +82,8 @@ pub fn diagnostics(
     Ok(found)
 }
 
-/// The diagnostics of a text, from what is found in it by itself: before what lints find stands what
-/// its programs tell.
+/// The diagnostics of a text, from what is found in it by itself. What its programs tell stands
+/// before what lints find.
 fn all_diagnostics(
     alloc: Global,
     checks: &mut Checks,

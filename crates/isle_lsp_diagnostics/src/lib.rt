@@ -1,5 +1,5 @@
-//! What checking tells of documents: the diagnostics of one, which are what the parser, the check of
-//! its programs and the lints find in it, and the notification that tells them; and the types of
+//! What checking tells of documents: the diagnostics of one, which are what the parser, the check
+//! of its programs and the lints find in it, and the notification that tells them; and the types of
 //! its variables, behind their first mentions and in hovers.
 #![tactic(auto)]
 
