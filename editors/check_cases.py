@@ -17,6 +17,15 @@ NOT_THERE = "error 5:19 unknown-term Unknown term in expression: 'only'"
 UNUSED = "warning {line}:22 unused-let unused variable 'y'"
 WITH_LET = RIGHT.replace(") x)", ") (let ((y T x)) (made)))")
 WRONG_IN_LET = WRONG_TYPE.replace("1:15", "{line}:30")
+BAR = "(decl bar (T) T)\n(rule (bar x) x)\n"
+AT_TWO_PLACES = """[[program]]
+name = "first"
+files = ["a.isle", "b.isle"]
+
+[[program]]
+name = "second"
+files = ["b.isle", "c.isle"]
+"""
 ABSENT = TOML.replace(', "made/absent.isle"', "")
 
 CHECKED = [
@@ -192,6 +201,35 @@ CHECKED = [
             ("diagnostics", "b.isle", UNUSED.format(line=2)),
             ("whole", "a.isle", DECLARED),
             ("diagnostics", "b.isle", WRONG_IN_LET.format(line=2), UNUSED.format(line=2)),
+        ],
+    ),
+    Case(
+        "checking: a file comes between those of a program, and the next one has another number",
+        {"a.isle": DECLARED, "c.isle": WRONG},
+        [
+            ("open", "c.isle"),
+            ("diagnostics", "c.isle", WRONG_TYPE),
+            ("write", "b.isle", BAR),
+            ("insert", "c.isle", "made", " "),
+            ("diagnostics", "c.isle", WRONG_TYPE),
+            ("open", "b.isle"),
+            ("diagnostics", "b.isle"),
+            ("diagnostics", "c.isle", WRONG_TYPE),
+        ],
+    ),
+    Case(
+        "checking: a document that two programs have at different places, while it does not parse and after",
+        {"a.isle": DECLARED, "b.isle": WRONG, "c.isle": DECLARED, "isle.toml": AT_TWO_PLACES},
+        [
+            ("open", "b.isle"),
+            ("diagnostics", "b.isle", WRONG_TYPE),
+            ("whole", "b.isle", WRONG + "("),
+            ("whole", "b.isle", RIGHT),
+            ("diagnostics", "b.isle"),
+            ("whole", "b.isle", RIGHT + "("),
+            ("whole", "b.isle", RIGHT + ")"),
+            ("whole", "b.isle", WRONG),
+            ("diagnostics", "b.isle", WRONG_TYPE),
         ],
     ),
     Case(

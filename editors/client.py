@@ -55,11 +55,19 @@ def write_text(path, text):
         file.write(text if isinstance(text, bytes) else text.encode())
 
 
-class Lines:
-    """Positions in a text: lines and units of UTF-16."""
+def units_of(text, encoding):
+    """How many units of an encoding a text has."""
+    return len(text.encode()) if encoding == "utf-8" else len(text) + sum(it > "\uffff" for it in text)
 
-    def __init__(self, text):
-        self.text = text
+
+class Lines:
+    """Positions in a text: lines and units of an encoding."""
+
+    # The encoding where none is given.
+    usual = "utf-16"
+
+    def __init__(self, text, encoding=None):
+        self.text, self.encoding = text, encoding or Lines.usual
         self.starts = [0, *(it.end() for it in LINE_END.finditer(text))]
         self.is_ascii = text.isascii()
 
@@ -69,7 +77,7 @@ class Lines:
         if self.is_ascii:
             return {"line": line, "character": offset - self.starts[line]}
         before = self.text[self.starts[line] : offset]
-        return {"line": line, "character": len(before) + sum(it > "\uffff" for it in before)}
+        return {"line": line, "character": units_of(before, self.encoding)}
 
     def range(self, start, end):
         return {"start": self.position(start), "end": self.position(end)}
@@ -86,16 +94,16 @@ class Lines:
             ahead = min(units, end - offset)
             offset, units = offset + ahead, units - ahead
         while units > 0 and offset < len(self.text) and self.text[offset] not in "\r\n":
-            units -= 2 if self.text[offset] > "\uffff" else 1
+            units -= units_of(self.text[offset], self.encoding)
             offset += 1
         if units != 0:
             raise Wrong(f"an edit is at line {line + 1}, character {position['character']}, where the text has none")
         return offset
 
 
-def edited(text, edits):
+def edited(text, edits, encoding=None):
     """A text after edits, which must not overlap."""
-    lines = Lines(text)
+    lines = Lines(text, encoding)
     places = sorted((lines.offset(it["range"]["start"]), lines.offset(it["range"]["end"]), it["newText"]) for it in edits)
     made, done = [], 0
     for start, end, new in places:
@@ -133,6 +141,7 @@ class Client:
             thread.start()
         self.versions = begin.get("capabilities", {}).get("workspace", {}).get("workspaceEdit", {}).get("documentChanges", False)
         self.answered = self.request("initialize", begin)
+        self.encoding = self.answered.get("result", {}).get("capabilities", {}).get("positionEncoding", "utf-16")
         self.notify("initialized", {})
 
     def receive(self):
@@ -220,7 +229,7 @@ class Client:
     def change(self, uri, start, end, new):
         """Replaces a part of a document."""
         document = self.documents[uri]
-        change = {"range": Lines(document.text).range(start, end), "text": new}
+        change = {"range": Lines(document.text, self.encoding).range(start, end), "text": new}
         self.send_changes(document, [change], document.text[:start] + new + document.text[end:])
 
     def replace(self, uri, text):
@@ -267,7 +276,7 @@ class Client:
             if text is None:
                 raise Wrong(f"{uri} is edited, and there is no such text")
             try:
-                texts[path] = (edited(text, edits), uri)
+                texts[path] = (edited(text, edits, self.encoding), uri)
             except Wrong as wrong:
                 raise Wrong(f"{os.path.basename(path)}: {wrong}") from None
         return texts

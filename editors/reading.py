@@ -752,6 +752,8 @@ class Renaming:
         self.name, self.kind = mark.name, mark.kind
         self.all = [it for text in texts for it in text.marks] if self.kind != VARIABLE else texts[number].marks
         self.variants = {it.name for it in self.all if it.owner == self.name} if self.kind == TYPE else set()
+        self.owners = {it.owner for it in self.all if it.owner and it.name == self.name} if self.kind == TERM else set()
+        self.front = f"{min(self.owners)}." if self.owners else ""  # what stays of a variant's name
 
     def is_same(self, mark):
         if self.kind == VARIABLE:
@@ -770,8 +772,8 @@ class Renaming:
         defined = [it for it in self.all if self.is_same(it) and it.defines]
         if not defined:
             return "undefined"
-        if any(it.owner for it in defined):
-            return "a variant"
+        if len(self.owners) > 1:
+            return "a variant of several types"
         if self.is_taken():
             return "taken"
         return "captured" if self.kind == VARIABLE and self.is_captured() else None
@@ -779,7 +781,7 @@ class Renaming:
     def is_taken(self):
         if self.kind == VARIABLE:
             return False
-        if self.has(self.kind, self.new):
+        if self.has(self.kind, self.front + self.new):
             return True
         moved = {self.new + it.removeprefix(self.name) for it in self.variants}
         shared = any(it.owner not in (None, self.name) and it.name in self.variants for it in self.all)
@@ -804,7 +806,7 @@ class Renaming:
         sign = 1 if self.kind == CONSTANT else 0
         for it in text.marks:
             if self.is_same(it):
-                yield it.start + sign, it.end
+                yield it.start + sign + (0 if it.owner else len(self.front)), it.end
             elif self.kind == TYPE and it.kind == TERM and it.name in self.variants and it.owner is None:
                 yield it.start, it.start + len(self.name)
 

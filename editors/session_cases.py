@@ -385,6 +385,35 @@ NUMBERS = [
     ),
 ]
 
+# `A.B` and `A.C` are variants. `P.Q.R` is a variant of two types.
+VARIANTS = "(type A (enum (B (x A)) C))\n(decl foo (A) A)\n"
+USES = "(rule (foo (A.B x)) (foo (A.C)))\n(extractor (bar x) (A.B x))\n"
+DOUBLE = "(type P (enum Q.R S))\n(type P.Q (enum R))\n(rule (foo (P.Q.R)) (P.S))\n"
+RENAMED = {"a.isle": VARIANTS.replace("(B ", "(Long "), "b.isle": USES.replace("A.B", "A.Long")}
+
+VARIANT = [
+    Case(
+        "variants: one is renamed where it is declared, and back where it is used",
+        {"a.isle": VARIANTS, "b.isle": USES},
+        [
+            ("rename", "a.isle", "B", "Long", RENAMED),
+            ("rename", "b.isle", "A.Long#2", "B", {"a.isle": VARIANTS, "b.isle": USES}),
+            ("refused", "b.isle", "A.B", "C"),
+            ("refused", "a.isle", "B", "1"),
+        ],
+    ),
+    Case(
+        "variants: one that is a variant of another type, too, is not renamed",
+        {"a.isle": VARIANTS, "b.isle": DOUBLE},
+        [
+            ("refused", "b.isle", "Q.R", "T"),
+            ("refused", "b.isle", "R))", "T"),
+            ("refused", "b.isle", "P.Q.R", "T"),
+            ("rename", "b.isle", "P.S", "T", {"b.isle": DOUBLE.replace(" S)", " T)").replace("P.S", "P.T")}),
+        ],
+    ),
+]
+
 SPELT = [
     *spelt("signs escaped", SIGNS, SIGNS_ESCAPED, "file://{root}/" + SIGNS, "file://{root}/" + SIGNS),
     *spelt("signs bare", SIGNS, "file://{root}/" + SIGNS, SIGNS_ESCAPED, "file://{root}/" + SIGNS),
@@ -717,4 +746,56 @@ SURROGATES = [
     ),
 ]
 
-CASES = [*CLOSED, *CHANGED, *NUMBERS, *SPELT, *LINKED, *ROOTS, *VERSIONS, *SURROGATES]
+# Names behind characters of two and of four bytes: of one and of two units of UTF-16.
+WIDE = {"a.isle": "(type T (primitive T))\n(; é😀 ;) (decl foo (T) T)\n", "b.isle": "(; 😀 ;) (rule (foo é) é)\n"}
+WIDE_BAR = {path: text.replace("foo", "bar") for path, text in WIDE.items()}
+
+
+def offering(*encodings):
+    """What a client announces that offers these encodings."""
+    return {"rootUri": "file://{root}", "capabilities": {"general": {"positionEncodings": list(encodings)}}}
+
+
+def counting(encoding, first, second, begin):
+    """The steps and the beginning of a case where `foo` is at these two places."""
+    return [
+        ("encoding", encoding),
+        ("references", "a.isle", "foo", first, second),
+        ("open", "b.isle"),
+        ("insert", "b.isle", "é#2", "(; ü😀 ;) "),
+        ("insert", "b.isle", "é#2", "(; ß ;) "),
+        ("definition", "b.isle", "foo", first),
+        ("rename", "b.isle", "é#2", "y", {"b.isle": "(; 😀 ;) (rule (foo y) (; ü😀 ;) (; ß ;) y)\n"}),
+        ("insert", "b.isle", "(rule", "(; ß😀 ;) "),
+        (
+            "rename",
+            "b.isle",
+            "foo",
+            "bar",
+            {"a.isle": WIDE_BAR["a.isle"], "b.isle": "(; 😀 ;) (; ß😀 ;) (rule (bar y) (; ü😀 ;) (; ß ;) y)\n"},
+        ),
+    ], begin
+
+
+ENCODINGS = [
+    Case(
+        "encodings: bytes of UTF-8, if the client offers them",
+        WIDE,
+        *counting("utf-8", "a.isle:2:20", "b.isle:1:19", offering("utf-16", "utf-32", "utf-8")),
+    ),
+    Case(
+        "encodings: units of UTF-16, if the client offers no others that are known",
+        WIDE,
+        *counting("utf-16", "a.isle:2:17", "b.isle:1:17", offering("utf-32", "utf-16", "utf-7")),
+    ),
+    Case("encodings: units of UTF-16, if the client offers none", WIDE, *counting("utf-16", "a.isle:2:17", "b.isle:1:17", None)),
+    Case("encodings: what is no text offers nothing", WIDE, [("encoding", "utf-16")], offering({"utf-8": 8}, 8, None)),
+    Case(
+        "encodings: what is no list offers nothing",
+        WIDE,
+        [("encoding", "utf-16")],
+        {"rootUri": "file://{root}", "capabilities": {"general": {"positionEncodings": "utf-8"}}},
+    ),
+]
+
+CASES = [*CLOSED, *CHANGED, *NUMBERS, *VARIANT, *SPELT, *LINKED, *ROOTS, *VERSIONS, *SURROGATES, *ENCODINGS]

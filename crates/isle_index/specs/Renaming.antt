@@ -1,5 +1,5 @@
 -- Whether a name can be renamed, and which positions change.
-use Rattle.std.specs.Prelude.{ℕ, List, [], ◌∷◌, Bool, true, false, ◌&&◌, ◌||◌, not, Option, None, Some, Result, Ok, Err, map, filter, codes, if◌then◌else◌, ◌==◌, ◌≡◌}
+use Rattle.std.specs.Prelude.{ℕ, List, [], ◌∷◌, Bool, true, false, ◌&&◌, ◌||◌, not, Option, None, Some, Result, Ok, Err, map, filter, codes, string_bytes, if◌then◌else◌, ◌==◌, ◌≡◌}
 use Rattle.std.specs.List.{filter_map, list_any}
 use Rattle.std.specs.List.Sorted.{IsPermutation, IsSorted}
 use Rattle.std.specs.Global.{Vec}
@@ -16,6 +16,9 @@ use Rattle.isle_resolve.specs.declared.event.Role.TheVariants as roles
 use Rattle.isle_resolve.specs.Event.{EventNode, defines, uses, defines_variant, occurs, binds, reads, closes, ends}
 use Rattle.isle_resolve.specs.Scopes.{SeenNode, seen}
 use Rattle.isle_resolve.specs.Names.{NameNode, global, variable, gives, is_of, is_number, joined, name_text, same_kind}
+use Rattle.isle_index.specs.declared.parts.Part as code
+use Rattle.isle_index.specs.declared.parts.Part.TheVariants as parts
+use Rattle.isle_index.specs.declared.parts.Variant.{Variant}
 use Rattle.isle_index.specs.declared.rename.Refusal.{Refusal}
 use Rattle.isle_index.specs.declared.rename.Refusal.TheVariants as refusals
 
@@ -60,6 +63,35 @@ writes_member owner ms (binds _) = false
 writes_member owner ms (reads _) = false
 writes_member owner ms closes = false
 writes_member owner ms ends = false
+
+-- a variant of a type
+pub record VariantNode : Type 0 where
+  pub owner : List ℕ
+  pub member : List ℕ
+
+abbrev pub variant_view : Variant → VariantNode
+variant_view v = record { owner = v.owner.now; member = v.member.now }
+
+-- the variant that an event defines, if it is this term
+abbrev pub variant_of : List ℕ → EventNode → Option VariantNode
+variant_of term (defines_variant o m) =
+    if bytes_eq (joined o.text m.text) term then Some (record { owner = o.text; member = m.text }) else None
+variant_of term (defines _ _) = None
+variant_of term (uses _ _) = None
+variant_of term (occurs _ _) = None
+variant_of term (binds _) = None
+variant_of term (reads _) = None
+variant_of term closes = None
+variant_of term ends = None
+
+abbrev pub or_later : Option VariantNode → Option VariantNode → Option VariantNode
+or_later (Some v) later = Some v
+or_later None later = later
+
+-- the first variant that is this term, if one is
+abbrev pub first_variant : List ℕ → List SeenNode → Option VariantNode
+first_variant term [] = None
+first_variant term (s ∷ ss) = or_later (variant_of term s.event) (first_variant term ss)
 
 -- the text of an event's variable
 abbrev pub variable_text : EventNode → List ℕ
@@ -114,13 +146,51 @@ is_definition ends own = false
 abbrev pub defines_it : NameNode → SeenNode → Bool
 defines_it name s = is_of name s && is_definition s.event (is_number s.number s.binder)
 
-abbrev pub is_variant : EventNode → Bool
-is_variant (defines_variant _ _) = true
-is_variant _ = false
+-- whether an event defines a variant that is this term
+abbrev pub gives_variant : List ℕ → EventNode → Bool
+gives_variant term (defines_variant o m) = bytes_eq (joined o.text m.text) term
+gives_variant term (defines _ _) = false
+gives_variant term (uses _ _) = false
+gives_variant term (occurs _ _) = false
+gives_variant term (binds _) = false
+gives_variant term (reads _) = false
+gives_variant term closes = false
+gives_variant term ends = false
 
--- whether an event defines a variant of this name
-abbrev pub gives_variant : NameNode → SeenNode → Bool
-gives_variant name s = is_of name s && is_variant s.event
+-- the part of a name that gets the new text
+pub data Part : Type 0 where
+  -- all of this text
+  whole_text : List ℕ → Part
+  -- The text of a variant, behind its type and a dot. Where the variant is defined, at these positions, it stands alone.
+  behind_type : (owner text : List ℕ) → (alone : List Pos) → Part
+
+abbrev pub part_view : code.Part → Part
+part_view (parts.WholeText text) = whole_text (string_bytes text)
+part_view (parts.BehindType owner text alone) = behind_type (string_bytes owner) (string_bytes text) alone.items
+
+-- the positions where the variants are defined that are this term
+abbrev pub alone_places : List ℕ → List SeenNode → List Pos
+alone_places term ss = filter_map (λ s. position s.event) (filter (λ s. gives_variant term s.event) ss)
+
+abbrev pub part_by : List ℕ → Option VariantNode → List SeenNode → Part
+part_by term None ss = whole_text term
+part_by term (Some v) ss = behind_type v.owner v.member (alone_places term ss)
+
+abbrev pub part_of : NameNode → List SeenNode → Part
+part_of (global kinds.Term text) ss = part_by text (first_variant text ss) ss
+part_of (global kinds.Type text) ss = whole_text text
+part_of (global kinds.Constant text) ss = whole_text text
+part_of (variable _ text) ss = whole_text text
+
+-- the text that a part has
+abbrev pub part_text : Part → List ℕ
+part_text (whole_text text) = text
+part_text (behind_type owner text alone) = text
+
+-- the text of the whole name, where its part has this text
+abbrev pub with_part : Part → List ℕ → List ℕ
+with_part (whole_text _) text = text
+with_part (behind_type owner _ alone) text = joined owner text
 
 -- whether something of a kind has this text
 abbrev pub has : Kind → List ℕ → List SeenNode → Bool
@@ -144,10 +214,15 @@ shares owner ms ends = false
 abbrev pub type_is_taken : List ℕ → List ℕ → List (List ℕ) → List SeenNode → Bool
 type_is_taken old new ms ss = has kinds.Type new ss || (has_member new ms ss || list_any (λ s. shares old ms s.event) ss)
 
+-- whether a part is the variant of one type, and an event defines a variant of another type that is the same term
+abbrev pub is_double : Part → List SeenNode → Bool
+is_double (whole_text _) ss = false
+is_double (behind_type owner text alone) ss = list_any (λ s. shares owner (text ∷ []) s.event) ss
+
 -- whether something else has the new name already, or a type's variant the new name of one of its variants
 abbrev pub is_taken : NameNode → List ℕ → List SeenNode → Bool
 is_taken (global kinds.Type text) new ss = type_is_taken text new (members text ss) ss
-is_taken (global kinds.Term text) new ss = has kinds.Term new ss
+is_taken (global kinds.Term text) new ss = has kinds.Term (with_part (part_of (global kinds.Term text) ss) new) ss
 is_taken (global kinds.Constant text) new ss = has kinds.Constant new ss
 is_taken (variable _ _) new ss = false
 
@@ -212,22 +287,22 @@ abbrev pub refusal : NameNode → List ℕ → List SeenNode → Option Refusal
 refusal name new ss =
     if not (is_new_name new) then Some refusals.NotAName
     else if not (list_any (defines_it name) ss) then Some refusals.Undefined
-    else if list_any (gives_variant name) ss then Some refusals.Variant
+    else if is_double (part_of name ss) ss then Some refusals.Variant
     else if is_taken name new ss then Some refusals.Taken
     else if is_captured name new ss then Some refusals.Captured
     else None
 
--- whether another type has a variant that is the same term as one of the type's own, or a template leaves a variable of
--- this name to rules
+-- whether another type has a variant that is the same term as one of the type's own, or as the variant, or a template
+-- leaves a variable of this name to rules
 abbrev pub is_fixed : NameNode → List SeenNode → Bool
 is_fixed (global kinds.Type text) ss = list_any (λ s. shares text (members text ss) s.event) ss
-is_fixed (global kinds.Term text) ss = false
+is_fixed (global kinds.Term text) ss = is_double (part_of (global kinds.Term text) ss) ss
 is_fixed (global kinds.Constant text) ss = false
 is_fixed (variable _ text) ss = has_left text ss
 
 -- whether a name can be renamed at all: every other name is rejected, whatever its new text
 abbrev pub can_be_renamed : NameNode → List SeenNode → Bool
-can_be_renamed name ss = list_any (defines_it name) ss && (not (list_any (gives_variant name) ss) && not (is_fixed name ss))
+can_be_renamed name ss = list_any (defines_it name) ss && not (is_fixed name ss)
 
 -- the name can be renamed, and these are the positions that change, in order
 pub record IsAccepted (name : NameNode) (new : List ℕ) (ss : List SeenNode) (places : List Pos) : Type 0 where

@@ -18,7 +18,7 @@ ghost use Rattle.isle_index.specs.Entries.{all_of};
 ghost use Rattle.isle_index.specs.Held.{Adds, IsIndexOf, all_in, event_count};
 ghost use Rattle.isle_resolve.specs.Names.{named_of};
 ghost use Rattle.isle_index.specs.Occurrences.{definitions, name_at, occurrence_at, occurrences};
-ghost use Rattle.isle_index.specs.Renaming.{IsAnswer, can_be_renamed};
+ghost use Rattle.isle_index.specs.Renaming.{IsAnswer, can_be_renamed, part_of, part_view};
 ghost use Rattle.isle_resolve.specs.Scopes.{seen_from};
 ghost use Rattle.isle_index.specs.Symbols.{symbol_of, symbols};
 ghost use Rattle.isle_resolve.specs.EventView.{events_of};
@@ -28,6 +28,7 @@ mod entries;
 mod moving;
 mod numbers;
 mod occurrences;
+mod parts;
 mod rename;
 mod symbols;
 
@@ -46,6 +47,8 @@ use moving::{add_moved, split};
 use numbers::Texts;
 pub use occurrences::Occurrence;
 use occurrences::{event_at, occurrence_in};
+pub use parts::Part;
+use parts::part_of;
 pub use rename::Refusal;
 use rename::{can_be_renamed, changed_places, refusal_for};
 use std::alloc::{AllocError, Global};
@@ -232,8 +235,9 @@ impl Index {
     }
 
     /// Returns whether `name`, a name of this index, can be renamed at all. If not, `rename`
-    /// rejects it whatever the new text: nothing defines it, it is a variant, or renaming it would
-    /// change another definition's meaning. An `Err` means out of memory.
+    /// rejects it whatever the new text: nothing defines it, a variant of another type is the same
+    /// term, or renaming it would change another definition's meaning. An `Err` means out of
+    /// memory.
     pub fn can_be_renamed(&self, alloc: Global, name: &Name) -> Result<bool, AllocError>
         ensures { IfOk result
             (λ can. can ≡ can_be_renamed (named_of name.now) (all_in self.now)) }
@@ -241,11 +245,12 @@ impl Index {
         can_be_renamed(alloc, &self.entries(), name)
     }
 
-    /// The positions to edit to rename `name`, a name of this index, to `new`, in order, or why it
-    /// cannot be renamed. Each edit replaces the old text by the new one; a constant's edit starts
-    /// after its `$`. Renaming a type also edits the first part of its variants' names,
-    /// `TYPE.VARIANT`. A variable is not renamed from or to the name of a variable that rules get
-    /// from a template. An `Err` means out of memory.
+    /// The positions of the names to edit to rename `name`, a name of this index, to `new`, in
+    /// order, or why it cannot be renamed. Each edit replaces the old text of the part of the name
+    /// that `part_of` returns by the new one; a constant's edit starts after its `$`. Renaming a
+    /// type also edits the first part of its variants' names, `TYPE.VARIANT`. A variable is not
+    /// renamed from or to the name of a variable that rules get from a template. An `Err` means out
+    /// of memory.
     pub fn rename(
         &self,
         alloc: Global,
@@ -264,5 +269,15 @@ impl Index {
                 Ok(Ok(places))
             }
         }
+    }
+
+    /// The part of `name`, a name of this index, that gets the new text when it is renamed: of a
+    /// variant, `TYPE.VARIANT`, what is behind the dot, and all of another name. An `Err` means out
+    /// of memory.
+    pub fn part_of(&self, alloc: Global, name: &Name) -> Result<Part, AllocError>
+        ensures { IfOk result
+            (λ part. part_view part ≡ part_of (named_of name.now) (all_in self.now)) }
+    {
+        part_of(alloc, &self.entries(), name)
     }
 }

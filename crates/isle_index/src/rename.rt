@@ -3,10 +3,11 @@
 ghost use Rattle.std.specs.Prelude.{◌≡◌, IfOk, map, option_map};
 ghost use Rattle.std.specs.List.{list_any};
 ghost use Rattle.isle_index.specs.Entries.{all_of, event_in, unpacked};
-ghost use Rattle.isle_resolve.specs.Names.{is_number, named_of};
+ghost use Rattle.isle_resolve.specs.Names.{global, is_number, named_of};
+ghost use Rattle.isle_resolve.specs.declared.event.Kind.TheVariants.{Term};
 ghost use Rattle.isle_index.specs.Renaming.{can_be_renamed, changed_places, changes, defines_it};
 ghost use Rattle.isle_index.specs.Renaming.{has_left, is_fixed, is_left, leaves};
-ghost use Rattle.isle_index.specs.Renaming.{gives_variant, has, has_member, is_captured};
+ghost use Rattle.isle_index.specs.Renaming.{has, has_member, is_captured, is_double, part_of};
 ghost use Rattle.isle_index.specs.Renaming.{is_definition, is_member, is_variable, shares};
 ghost use Rattle.isle_index.specs.Renaming.{type_is_taken, variable_text};
 ghost use Rattle.isle_index.specs.Renaming.{is_new_name, is_reserved, is_taken, member_of, members};
@@ -16,6 +17,7 @@ ghost use Rattle.isle_resolve.specs.Scopes.{seen, seen_of};
 ghost use Rattle.isle_resolve.specs.EventView.{event_of};
 
 use crate::entries::{Entries, Entry};
+use crate::parts::first_variant;
 use isle_ast_names::identifier::is_identifier;
 use isle_base::lexer::Pos;
 use isle_resolve::event::{Event, Kind, Role, Word};
@@ -30,7 +32,7 @@ pub enum Refusal {
     NotAName,
     /// The program doesn't define the name.
     Undefined,
-    /// The name is that of a variant.
+    /// The name is that of a variant, and a variant of another type is the same term.
     Variant,
     /// Another name of the same kind has the new text, or a variant would get another term's name.
     Taken,
@@ -56,7 +58,7 @@ pub fn refusal_for(
     if !is_defined(entries, name) {
         return Ok(Some(Refusal::Undefined));
     }
-    if is_variant(entries, name) {
+    if is_double(alloc, entries, name)? {
         return Ok(Some(Refusal::Variant));
     }
     if is_taken(alloc, entries, name, new)? {
@@ -74,14 +76,15 @@ pub fn can_be_renamed(alloc: Global, entries: &Entries, name: &Name) -> Result<b
     ensures { IfOk result
         (λ can. can ≡ can_be_renamed (named_of name.now) (all_of entries.now)) }
 {
-    if !is_defined(entries, name) || is_variant(entries, name) {
+    if !is_defined(entries, name) {
         return Ok(false);
     }
     Ok(!is_fixed(alloc, entries, name)?)
 }
 
 /// Returns whether a name that is defined cannot be renamed: another type has a variant that is the
-/// same term as one of the type's own, or a template leaves a variable of this name to rules.
+/// same term as one of the type's own, or as the variant, or a template leaves a variable of this
+/// name to rules.
 fn is_fixed(alloc: Global, entries: &Entries, name: &Name) -> Result<bool, AllocError>
     ensures { IfOk result
         (λ fixed. fixed ≡ is_fixed (named_of name.now) (all_of entries.now)) }
@@ -94,7 +97,14 @@ fn is_fixed(alloc: Global, entries: &Entries, name: &Name) -> Result<bool, Alloc
             let members = members(alloc, entries, text.as_str())?;
             has_shared(alloc, entries, text.as_str(), &members)
         }
-        Name::Global { .. } => Ok(false),
+        Name::Global {
+            kind: Kind::Term,
+            ..
+        } => is_double(alloc, entries, name),
+        Name::Global {
+            kind: Kind::Constant,
+            ..
+        } => Ok(false),
         Name::Variable { text, .. } => Ok(has_left(entries, text.as_str())),
     }
 }
@@ -150,25 +160,20 @@ fn is_definition(seen: &Seen) -> bool
     }
 }
 
-fn is_variant(entries: &Entries, name: &Name) -> bool
-    ensures { result ≡ list_any (gives_variant (named_of name.now)) (all_of entries.now) }
+/// Returns whether `name` is a variant, and a variant of another type is the same term.
+fn is_double(alloc: Global, entries: &Entries, name: &Name) -> Result<bool, AllocError>
+    ensures { IfOk result (λ double. double
+        ≡ is_double (part_of (named_of name.now) (all_of entries.now)) (all_of entries.now)) }
 {
-    for (number, entry) in entries.items.iter().enumerate() {
-        if gives_variant(entries, name, number, entry) {
-            return true;
-        }
-    }
-    false
-}
-
-/// Returns whether the event of `entry`, whose number is `number`, defines a variant of this name.
-fn gives_variant(entries: &Entries, name: &Name, number: usize, entry: &Entry) -> bool
-    ensures { result ≡ gives_variant (named_of name.now)
-        (unpacked entries.now.texts.now number entry.now) }
-{
-    match entry {
-        Entry::DefinesVariant { .. } => entries.is_of(name, number, entry),
-        _ => false,
+    match name {
+        Name::Global {
+            kind: Kind::Term,
+            text,
+        } => match first_variant(entries, text.as_str()) {
+            Some(variant) => has_shared(alloc, entries, variant.owner, &[variant.member]),
+            None => Ok(false),
+        },
+        _ => Ok(false),
     }
 }
 
@@ -185,8 +190,29 @@ fn is_taken(alloc: Global, entries: &Entries, name: &Name, new: &str) -> Result<
             let members = members(alloc, entries, text.as_str())?;
             type_is_taken(alloc, entries, text.as_str(), new, &members)
         }
-        Name::Global { kind, .. } => Ok(has(entries, *kind, new)),
+        Name::Global {
+            kind: Kind::Term,
+            text,
+        } => term_is_taken(alloc, entries, text.as_str(), new),
+        Name::Global {
+            kind: Kind::Constant,
+            ..
+        } => Ok(has(entries, Kind::Constant, new)),
         Name::Variable { .. } => Ok(false),
+    }
+}
+
+/// Returns whether another term has the new name of a term. That of a variant begins with its type.
+fn term_is_taken(alloc: Global, entries: &Entries, old: &str, new: &str) -> Result<bool, AllocError>
+    ensures { IfOk result
+        (λ taken. taken ≡ is_taken (global Term old.now) new.now (all_of entries.now)) }
+{
+    match first_variant(entries, old) {
+        Some(variant) => {
+            let term = full_name(alloc, variant.owner, new)?;
+            Ok(has(entries, Kind::Term, term.as_str()))
+        }
+        None => Ok(has(entries, Kind::Term, new)),
     }
 }
 
@@ -376,7 +402,8 @@ pub fn changed_places(alloc: Global, entries: &Entries, name: &Name) -> Result<V
     Ok(places)
 }
 
-fn position(event: &Event) -> Option<Pos>
+/// The position of an event's name, if it has one.
+pub fn position(event: &Event) -> Option<Pos>
     ensures { result ≡ position (event_of event.now) }
 {
     match event {

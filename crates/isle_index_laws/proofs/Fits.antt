@@ -4,7 +4,7 @@ use Rattle.std.specs.List.{list_any}
 use Rattle.isle_resolve.specs.declared.event.Kind.TheVariants as kinds
 use Rattle.isle_resolve.specs.Scopes.{SeenNode, seen}
 use Rattle.isle_resolve.specs.Names.{NameNode, global, variable}
-use Rattle.isle_index.specs.Renaming.{can_be_renamed, defines_it, gives_variant, has, has_left, has_member, is_captured, is_fixed, is_new_name, is_taken, members, refusal, renamed_variable, same_binders, shares}
+use Rattle.isle_index.specs.Renaming.{can_be_renamed, defines_it, has, has_left, has_member, is_captured, is_double, is_fixed, is_new_name, is_taken, members, part_of, refusal, renamed_variable, same_binders, shares}
 use Rattle.isle_index.proofs.Texts.{or-false}
 
 cond-none : {X : Type 0} (b : Bool) (x : X) (o : Option X) → cond b (Some x) o ≡ None → (b ≡ false) × (o ≡ None)
@@ -14,7 +14,7 @@ cond-none false x o e = (refl, e)
 -- what is known of a name that can have a text
 pub record Fits (name : NameNode) (new : List ℕ) (ss : List SeenNode) : Type 0 where
   pub defined : not (list_any (defines_it name) ss) ≡ false
-  pub no_variant : list_any (gives_variant name) ss ≡ false
+  pub not_double : is_double (part_of name ss) ss ≡ false
   pub not_taken : is_taken name new ss ≡ false
   pub not_captured : is_captured name new ss ≡ false
 
@@ -22,14 +22,14 @@ pub fits : (name : NameNode) (new : List ℕ) (ss : List SeenNode) → refusal n
 fits name new ss none =
     let first = cond-none (not (is_new_name new)) _ _ none in
     let second = cond-none (not (list_any (defines_it name) ss)) _ _ first.1 in
-    let third = cond-none (list_any (gives_variant name) ss) _ _ second.1 in
+    let third = cond-none (is_double (part_of name ss) ss) _ _ second.1 in
     let fourth = cond-none (is_taken name new ss) _ _ third.1 in
     let fifth = cond-none (is_captured name new ss) _ _ fourth.1 in
-    record { defined = second.0; no_variant = third.0; not_taken = fourth.0; not_captured = fifth.0 }
+    record { defined = second.0; not_double = third.0; not_taken = fourth.0; not_captured = fifth.0 }
 
 -- nothing fixes a name that can have a text
 free_of : (name : NameNode) (new : List ℕ) (ss : List SeenNode) → Fits name new ss → is_fixed name ss ≡ false
-free_of (global kinds.Term old) new ss known = refl
+free_of (global kinds.Term old) new ss known = known.not_double
 free_of (global kinds.Constant old) new ss known = refl
 free_of (global kinds.Type old) new ss known =
     let ms : List (List ℕ) = members old ss in
@@ -38,13 +38,12 @@ free_of (global kinds.Type old) new ss known =
 free_of (variable b old) new ss known =
     (or-false (has_left old ss) (has_left new ss || not (same_binders (seen (map (renamed_variable b old new) ss)) ss)) known.not_captured).0
 
-all-hold : (a b c : Bool) → not a ≡ false → b ≡ false → c ≡ false → a && (not b && not c) ≡ true
-all-hold true false false p q r = refl
-all-hold false b c p q r = let never : true ≡ false = p in absurd (cc)
-all-hold true true c p q r = let never : true ≡ false = q in absurd (cc)
-all-hold true false true p q r = let never : true ≡ false = r in absurd (cc)
+both-hold : (a b : Bool) → not a ≡ false → b ≡ false → a && not b ≡ true
+both-hold true false p q = refl
+both-hold false b p q = let never : true ≡ false = p in absurd (cc)
+both-hold true true p q = let never : true ≡ false = q in absurd (cc)
 
 pub accepted_can_be : (name : NameNode) (new : List ℕ) (ss : List SeenNode) → refusal name new ss ≡ None → can_be_renamed name ss ≡ true
 accepted_can_be name new ss none =
     let known = fits name new ss none in
-    all-hold (list_any (defines_it name) ss) (list_any (gives_variant name) ss) (is_fixed name ss) known.defined known.no_variant (free_of name new ss known)
+    both-hold (list_any (defines_it name) ss) (is_fixed name ss) known.defined (free_of name new ss known)

@@ -28,7 +28,8 @@ use Rattle.isle_resolve.proofs.Texts.{bytes-false}
 use Rattle.isle_index_laws.specs.Kept.{AreKept, CanReplace, IsKeptName}
 use Rattle.isle_index_laws.proofs.Marks.{SameEvents, events_at, events_in_turn, exchanged, wanted}
 use Rattle.isle_index_laws.proofs.Follows.{Follow, KeepsPlaces, at, behind_word, chain, each_follows, each_one_follows, in_parentheses, one_constant, one_name, remade, split, still}
-use Rattle.isle_index_laws.proofs.KeptNames.{clash, not_word}
+use Rattle.isle_index_laws.proofs.KeptNames.{clash, no_sign, not_word}
+use Rattle.isle_index_laws.proofs.NewNames.{not-false}
 use Rattle.isle_index_laws.proofs.KeptTrees.{no_condition, same_head}
 
 -- texts of variables
@@ -48,7 +49,7 @@ pattern_text old new k h =
     (λ same. ap is_variable_of_patterns same ∙ h)
     (λ p. and_from (is_identifier new && not (is_constant new) && not (bytes_eq new (codes "_"))) (not (is_bool_word new))
     (and_from (is_identifier new && not (is_constant new)) (not (bytes_eq new (codes "_")))
-    (and_from (is_identifier new) (not (is_constant new)) (k.name first.0) (ap not p.1)) (ap not (free new (codes "_") p.0 refl)))
+    (and_from (is_identifier new) (not (is_constant new)) (k.name first.0) (ap not (no_sign (is_constant old) (is_constant new) p.1 (not-false (is_constant old) first.1)))) (ap not (free new (codes "_") p.0 refl)))
     (ap not (no_bool new p.0)))
     k.plain
 
@@ -59,7 +60,7 @@ expression_text old new k h =
     ⊎_elim
     (λ same. ap is_variable_of_expressions same ∙ h)
     (λ p. and_from (is_identifier new && not (is_constant new)) (not (is_bool_word new))
-    (and_from (is_identifier new) (not (is_constant new)) (k.name first.0) (ap not p.1)) (ap not (no_bool new p.0)))
+    (and_from (is_identifier new) (not (is_constant new)) (k.name first.0) (ap not (no_sign (is_constant old) (is_constant new) p.1 (not-false (is_constant old) first.1)))) (ap not (no_bool new p.0)))
     k.plain
 
 tested_begins : (test : List ℕ → Bool) (n : Name) → Begins (SpellsTested test n)

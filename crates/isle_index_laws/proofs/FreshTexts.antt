@@ -7,7 +7,7 @@ use Rattle.isle_resolve.specs.declared.event.Kind.TheVariants as kinds
 use Rattle.isle_resolve.specs.Event.{EventNode, defines, uses, defines_variant, occurs, binds, reads, closes, ends}
 use Rattle.isle_resolve.specs.Scopes.{BoundNode, SeenNode, after, binder, seen, seen_from}
 use Rattle.isle_resolve.specs.Names.{NameNode, global, variable, gives, is_number, joined, same_kind}
-use Rattle.isle_index.specs.Renaming.{can_be_renamed, defines_it, gives_variant, has, has_left, has_member, is_captured, is_fixed, is_left, is_new_name, is_taken, leaves_by, members, refusal, renamed_variable, same_binders, shares}
+use Rattle.isle_index.specs.Renaming.{can_be_renamed, defines_it, has, has_left, has_member, is_captured, is_double, is_fixed, is_left, is_new_name, is_taken, leaves_by, members, part_of, refusal, renamed_variable, same_binders, shares, with_part}
 use Rattle.isle_resolve.proofs.Texts.{bytes-false}
 use Rattle.isle_index_laws.specs.Fresh.{BeginsNot, IsFresh, IsNotIn}
 use Rattle.isle_index_laws.proofs.Keeps.{any_over}
@@ -52,8 +52,8 @@ none-has_member new (m ∷ ms) es fresh =
     (ap (λ t. has kinds.Term t (seen es)) (append_assoc new (codes ".") m) ∙ none-begins kinds.Term new (codes "." ++ m) es fresh)
     (none-has_member new ms es fresh)
 
-not_taken : (name : NameNode) (new : List ℕ) (es : List EventNode) → IsFresh new es → is_fixed name (seen es) ≡ false → is_taken name new (seen es) ≡ false
-not_taken (global kinds.Term old) new es fresh free = none-has kinds.Term new es fresh
+not_taken : (name : NameNode) (new : List ℕ) (es : List EventNode) → IsFresh (with_part (part_of name (seen es)) new) es → is_fixed name (seen es) ≡ false → is_taken name new (seen es) ≡ false
+not_taken (global kinds.Term old) new es fresh free = none-has kinds.Term (with_part (part_of (global kinds.Term old) (seen es)) new) es fresh
 not_taken (global kinds.Constant old) new es fresh free = none-has kinds.Constant new es fresh
 not_taken (global kinds.Type old) new es fresh free =
     let ms : List (List ℕ) = members old (seen es) in
@@ -93,7 +93,7 @@ have_others : (new : List ℕ) (es : List EventNode) → IsFresh new es → AllB
 have_others new [] fresh = tt
 have_others new (e ∷ es) fresh = (has_other new e fresh.0, have_others new es fresh.1)
 
-not_captured : (name : NameNode) (new : List ℕ) (es : List EventNode) → IsFresh new es → is_fixed name (seen es) ≡ false → is_captured name new (seen es) ≡ false
+not_captured : (name : NameNode) (new : List ℕ) (es : List EventNode) → IsFresh (with_part (part_of name (seen es)) new) es → is_fixed name (seen es) ≡ false → is_captured name new (seen es) ≡ false
 not_captured (global k old) new es fresh free = refl
 not_captured (variable b old) new es fresh free =
     let kept : Bool = same_binders (seen (map (renamed_variable b old new) (seen es))) (seen es) in
@@ -106,14 +106,21 @@ passes : {A : Type 0} (b : Bool) (why : A) (next : Option A) → b ≡ false →
 passes true why next fails rest = let never : true ≡ false = fails in absurd (cc)
 passes false why next fails rest = rest
 
-pub fresh_accepted : (name : NameNode) (new : List ℕ) (es : List EventNode) → can_be_renamed name (seen es) ≡ true → is_new_name new ≡ true → IsFresh new es → refusal name new (seen es) ≡ None
+-- a variant that is double is fixed
+not_double : (name : NameNode) (ss : List SeenNode) → is_fixed name ss ≡ false → is_double (part_of name ss) ss ≡ false
+not_double (global kinds.Term old) ss free = free
+not_double (global kinds.Constant old) ss free = refl
+not_double (global kinds.Type old) ss free = refl
+not_double (variable b old) ss free = refl
+
+pub fresh_accepted : (name : NameNode) (new : List ℕ) (es : List EventNode) → can_be_renamed name (seen es) ≡ true → is_new_name new ≡ true →
+    IsFresh (with_part (part_of name (seen es)) new) es → refusal name new (seen es) ≡ None
 fresh_accepted name new es can fits fresh =
     let ss : List SeenNode = seen es in
-    let first = and_parts (list_any (defines_it name) ss) (not (list_any (gives_variant name) ss) && not (is_fixed name ss)) can in
-    let second = and_parts (not (list_any (gives_variant name) ss)) (not (is_fixed name ss)) first.1 in
-    let free : is_fixed name ss ≡ false = not-false (is_fixed name ss) second.1 in
+    let both = and_parts (list_any (defines_it name) ss) (not (is_fixed name ss)) can in
+    let free : is_fixed name ss ≡ false = not-false (is_fixed name ss) both.1 in
     passes (not (is_new_name new)) _ _ (ap not fits)
-    (passes (not (list_any (defines_it name) ss)) _ _ (ap not first.0)
-    (passes (list_any (gives_variant name) ss) _ _ (not-false (list_any (gives_variant name) ss) second.0)
+    (passes (not (list_any (defines_it name) ss)) _ _ (ap not both.0)
+    (passes (is_double (part_of name ss) ss) _ _ (not_double name ss free)
     (passes (is_taken name new ss) _ _ (not_taken name new es fresh free)
     (passes (is_captured name new ss) _ _ (not_captured name new es fresh free) refl))))

@@ -45,7 +45,7 @@ variable_over ms kind old new c x y i bound (closes ∷ es) = ap (λ bs. false �
 variable_over ms kind old new c x y i bound (ends ∷ es) = ap (λ bs. false ∷ bs) (variable_over ms kind old new c x y (i + 1) [] es)
 
 -- an event that names something of a kind and a text names the new text after, and else does not
-abbrev Stays : List (List ℕ) → Kind → List ℕ → List ℕ → Kind → List ℕ → EventNode → Type 0
+abbrev pub Stays : List (List ℕ) → Kind → List ℕ → List ℕ → Kind → List ℕ → EventNode → Type 0
 Stays ms kind old new k t (defines l n) =
     same_kind k l ≡ true → bytes_eq (new_text ms kind old new l n.text) (new_text ms kind old new k t) ≡ bytes_eq n.text t
 Stays ms kind old new k t (uses l n) =
@@ -59,11 +59,11 @@ Stays ms kind old new k t (reads _) = Unit {0}
 Stays ms kind old new k t closes = Unit {0}
 Stays ms kind old new k t ends = Unit {0}
 
-behind-test : (b x y : Bool) → (b ≡ true → x ≡ y) → b && x ≡ b && y
+pub behind-test : (b x y : Bool) → (b ≡ true → x ≡ y) → b && x ≡ b && y
 behind-test true x y h = h refl
 behind-test false x y h = refl
 
-stays_gives : (ms : List (List ℕ)) (kind : Kind) (old new : List ℕ) (k : Kind) (t : List ℕ) (e : EventNode) → Stays ms kind old new k t e →
+pub stays_gives : (ms : List (List ℕ)) (kind : Kind) (old new : List ℕ) (k : Kind) (t : List ℕ) (e : EventNode) → Stays ms kind old new k t e →
     gives k (new_text ms kind old new k t) (new_event ms kind old new e) ≡ gives k t e
 stays_gives ms kind old new k t (defines l n) h = behind-test (same_kind k l) _ _ h
 stays_gives ms kind old new k t (uses l n) h = behind-test (same_kind k l) _ _ h
@@ -101,7 +101,7 @@ each_by p P h (e ∷ es) none = let parts = or-false (p e) (list_any p es) none 
 differs : (k : Kind) (t u : List ℕ) (es : List EventNode) → list_any (gives k t) es ≡ true → list_any (gives k u) es ≡ false → t ≡ u → ⊥
 differs k t u es there gone e = let same : list_any (gives k t) es ≡ list_any (gives k u) es = ap (λ x. list_any (gives k x) es) e in absurd (cc)
 
-kinds-are : (k l : Kind) → same_kind k l ≡ true → k ≡ l
+pub kinds-are : (k l : Kind) → same_kind k l ≡ true → k ≡ l
 kinds-are kinds.Term kinds.Term e = refl
 kinds-are kinds.Type kinds.Type e = refl
 kinds-are kinds.Constant kinds.Constant e = refl
@@ -124,15 +124,15 @@ Joins ms kind old new (reads _) = Unit {0}
 Joins ms kind old new closes = Unit {0}
 Joins ms kind old new ends = Unit {0}
 
-both-true : (a b : Bool) → a ≡ true → b ≡ true → a && b ≡ true
+pub both-true : (a b : Bool) → a ≡ true → b ≡ true → a && b ≡ true
 both-true true b p q = q
 both-true false b p q = p
 
 -- texts of a kind stay the same or different
-abbrev Same : List (List ℕ) → Kind → List ℕ → List ℕ → Kind → List ℕ → List ℕ → Type 0
+abbrev pub Same : List (List ℕ) → Kind → List ℕ → List ℕ → Kind → List ℕ → List ℕ → Type 0
 Same ms kind old new k x t = bytes_eq (new_text ms kind old new k x) (new_text ms kind old new k t) ≡ bytes_eq x t
 
-stays_by : (ms : List (List ℕ)) (kind : Kind) (old new : List ℕ) (k : Kind) (t : List ℕ) (e : EventNode) →
+pub stays_by : (ms : List (List ℕ)) (kind : Kind) (old new : List ℕ) (k : Kind) (t : List ℕ) (e : EventNode) →
     ((x : List ℕ) → gives k x e ≡ true → Same ms kind old new k x t) → Joins ms kind old new e → Stays ms kind old new k t e
 stays_by ms kind old new k t (defines l n) h j = λ same.
     ap (λ z. bytes_eq (new_text ms kind old new z n.text) (new_text ms kind old new k t)) (sym (kinds-are k l same))
@@ -167,7 +167,7 @@ IsFree ms kinds.Type old new es =
     (list_any (gives kinds.Type new) es ≡ false)
     × ((x : List ℕ) → is_member old ms x ≡ true → list_any (gives kinds.Term (with_front old new x)) es ≡ false)
 
-same_texts : (ms : List (List ℕ)) (kind : Kind) (old new : List ℕ) (k : Kind) (x t : List ℕ) (es : List EventNode) → IsFree ms kind old new es →
+pub same_texts : (ms : List (List ℕ)) (kind : Kind) (old new : List ℕ) (k : Kind) (x t : List ℕ) (es : List EventNode) → IsFree ms kind old new es →
     list_any (gives k x) es ≡ true → list_any (gives k t) es ≡ true → Same ms kind old new k x t
 same_texts ms kinds.Term old new kinds.Term x t es free px pt = swap-same old new x t (differs kinds.Term x new es px free) (differs kinds.Term t new es pt free)
 same_texts ms kinds.Term old new kinds.Type x t es free px pt = refl
@@ -288,16 +288,11 @@ free_members old new (m ∷ ms) es none x mem =
     let parts = or-false (has kinds.Term (joined new m) (seen es)) (has_member new ms (seen es)) none in
     free_by old new m ms es parts.0 x (free_members old new ms es parts.1 x) (bytes_eq (joined old m) x) refl mem
 
-and-left : (a : Bool) → a && true ≡ false → a ≡ false
-and-left true e = e
-and-left false e = refl
-
 -- a variant of a term's new text would be a variant of that name
-pub term_joins : (ms : List (List ℕ)) (old new : List ℕ) (e : EventNode) → gives_variant (global kinds.Term old) (record { event = e; number = 0; binder = None }) ≡ false →
+pub term_joins : (ms : List (List ℕ)) (old new : List ℕ) (e : EventNode) → gives_variant old e ≡ false →
     Joins ms kinds.Term old new e
 term_joins ms old new (defines_variant o m) none =
-    let never : bytes_eq (joined o.text m.text) old ≡ false = and-left (bytes_eq (joined o.text m.text) old) none in
-    sym (ap (λ b. cond b new (joined o.text m.text)) never)
+    sym (ap (λ b. cond b new (joined o.text m.text)) none)
 term_joins ms old new (defines k n) none = tt
 term_joins ms old new (uses k n) none = tt
 term_joins ms old new (occurs role n) none = tt

@@ -1,5 +1,7 @@
 -- What a name may do, its new text may do too.
-use Rattle.std.proofs.Common.{◌≡◌, ◌≢◌, ℕ, List, Bool, true, false, not, ◌||◌, bytes_eq, codes, refl, sym, ap, ◌∙◌, ⊎_elim}
+use Rattle.std.proofs.Common.{◌≡◌, ◌≢◌, ℕ, List, [], ◌∷◌, Bool, true, false, not, ◌||◌, bytes_eq, codes, refl, sym, ap, ◌∙◌, ⊎_elim}
+use Rattle.std.proofs.lemmas.Bool.{eqb-true}
+use Rattle.isle_base.specs.Bytes.{dollar}
 use Rattle.isle_base.specs.Skips.{begins_with}
 use Rattle.isle_ast_names.specs.Tree.{Name}
 use Rattle.isle_ast_names.specs.Words.{demands, is_dollar}
@@ -36,9 +38,18 @@ demands_kept old new word flag k reserved h =
     (λ p. ap (λ b. not b || flag) (bytes-false new word (λ e. clash (is_reserved new) (ap is_reserved e ∙ reserved) p.0)))
     k.plain
 
+dollar_first : (text : List ℕ) → begins_with is_dollar text ≡ true → (behind : List ℕ) × (text ≡ dollar ∷ behind)
+dollar_first [] h = let never : false ≡ true = h in absurd (cc)
+dollar_first (b ∷ bs) h = (bs, ap (λ a. a ∷ bs) (eqb-true b dollar h))
+
+-- what begins with no `$` begins with none after
+pub no_sign : (old new : Bool) → (new ≡ true → old ≡ true) → old ≡ false → new ≡ false
+no_sign old true kept plain = clash old (kept refl) plain
+no_sign old false kept plain = refl
+
 pub no_dollar : (m n : Name) → CanReplace m.text n.text → HasNoDollar m → HasNoDollar n
 no_dollar m n k h behind e =
-    ⊎_elim (λ same. h behind (sym same ∙ e)) (λ p. clash (begins_with is_dollar n.text) (ap (begins_with is_dollar) e) p.1) k.plain
+    ⊎_elim (λ same. h behind (sym same ∙ e)) (λ p. let first = dollar_first m.text (p.1 (ap (begins_with is_dollar) e)) in h first.0 first.1) k.plain
 
 pub pattern_variable : (m n : Name) → CanReplace m.text n.text → IsPatternVariable m → IsPatternVariable n
 pattern_variable m n k v = record {

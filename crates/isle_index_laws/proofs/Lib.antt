@@ -11,9 +11,11 @@ pub mod Marks
 pub mod Meanings
 pub mod NewNames
 pub mod Owners
+pub mod Parts
 pub mod Programs
 pub mod RenamedTokens
 pub mod Renamings
 pub mod Replaced
 pub mod SameBinders
 pub mod UnusedTexts
+pub mod Variants

@@ -1,6 +1,7 @@
 -- Renaming keeps what names mean.
-use Rattle.std.proofs.Common.{◌≡◌, ℕ, ◌+◌, List, [], ◌∷◌, true, ◌||◌, None, map, refl, sym, ap, ◌∙◌, subst}
+use Rattle.std.proofs.Common.{◌≡◌, ℕ, ◌+◌, List, [], ◌∷◌, true, false, ◌||◌, Option, None, Some, map, refl, sym, ap, ◌∙◌, subst}
 use Rattle.std.specs.List.{AllByRecursion, list_any}
+use Rattle.isle_base_source.specs.declared.pos.Pos.{Pos}
 use Rattle.isle_ast.specs.Tree.{Definition}
 use Rattle.isle_ast_names.specs.Tree.{Name}
 use Rattle.isle_resolve.specs.declared.event.Kind.{Kind}
@@ -10,12 +11,13 @@ use Rattle.isle_resolve.specs.Events.{events}
 use Rattle.isle_resolve.specs.Mapped.{map_definitions, map_event}
 use Rattle.isle_resolve.proofs.MappedLemmas.{events_follow}
 use Rattle.isle_resolve.specs.Scopes.{BoundNode, SeenNode, after, binder, seen, seen_from}
-use Rattle.isle_resolve.specs.Names.{NameNode, global, variable, gives, is_of}
-use Rattle.isle_index.specs.Renaming.{gives_variant, has, has_member, has_left, members, refusal, renamed_variable, same_binders, shares}
-use Rattle.isle_index.specs.Renamed.{Renames, after_renaming, new_event, new_name}
+use Rattle.isle_resolve.specs.Names.{NameNode, global, variable, gives, is_of, joined}
+use Rattle.isle_index.specs.Renaming.{VariantNode, alone_places, behind_type, first_variant, gives_variant, has, has_member, has_left, is_double, members, part_by, refusal, renamed_variable, same_binders, shares, with_part}
+use Rattle.isle_index.specs.Renamed.{Renames, after_renaming, new_event, new_name, with_member}
 use Rattle.isle_index.proofs.Texts.{not-true, or-false}
 use Rattle.isle_index_laws.proofs.Fits.{fits}
 use Rattle.isle_index_laws.proofs.Keeps.{IsCovered, IsFree, Joins, any_over, constant_joins, covers, each_by, free_members, keeps, members_over, term_joins, type_joins, variable_keeps}
+use Rattle.isle_index_laws.proofs.Variants.{all_own, first_is, no_first, variant_keeps}
 
 -- events that change as those that are seen
 events_renamed : (h : EventNode → EventNode) (r : SeenNode → EventNode) (i : ℕ) (bound : List BoundNode) (es : List EventNode) →
@@ -43,17 +45,37 @@ global_law ms f ds kind old new m renames free joins there =
     (renamed_events f (λ s. new_event ms kind old new s.event) ds renames ∙ plain_over (new_event ms kind old new) 0 [] (events ds))
     ∙ keeps ms kind old new m (events ds) free joins there
 
+-- what names mean once a term has another text, which may be a variant
+term_law : (f : Name → Name) (ds : List Definition) (old new : List ℕ) (m : NameNode) (found : Option VariantNode) → first_variant old (seen (events ds)) ≡ found →
+    is_double (part_by old found (seen (events ds))) (seen (events ds)) ≡ false → has kinds.Term (with_part (part_by old found (seen (events ds))) new) (seen (events ds)) ≡ false →
+    AllByRecursion (λ s. map_event f s.event ≡ with_member (part_by old found (seen (events ds))) old new
+    (new_event (members old (seen (events ds))) kinds.Term old (with_part (part_by old found (seen (events ds))) new) s.event)) (seen (events ds)) →
+    list_any (is_of m) (seen (events ds)) ≡ true →
+    map (is_of (new_name (members old (seen (events ds))) (global kinds.Term old) (with_part (part_by old found (seen (events ds))) new) m)) (seen (events (map_definitions f ds))) ≡ map (is_of m) (seen (events ds))
+term_law f ds old new m None first single free renames there =
+    let ms : List (List ℕ) = members old (seen (events ds)) in
+    global_law ms f ds kinds.Term old new m renames
+    (sym (any_over (gives kinds.Term new) 0 [] (events ds)) ∙ free)
+    (each_by (gives_variant old) (Joins ms kinds.Term old new) (term_joins ms old new) (events ds)
+    (sym (any_over (gives_variant old) 0 [] (events ds)) ∙ no_first old (seen (events ds)) first))
+    there
+term_law f ds old new m (Some v) first single free renames there =
+    let ss : List SeenNode = seen (events ds) in
+    let ms : List (List ℕ) = members old ss in
+    let alone : List Pos = alone_places old ss in
+    let turned : EventNode → EventNode = λ e. with_member (behind_type v.owner v.member alone) old new (new_event ms kinds.Term old (joined v.owner new) e) in
+    ap (λ es. map (is_of (new_name ms (global kinds.Term old) (joined v.owner new) m)) (seen es)) (renamed_events f (λ s. turned s.event) ds renames ∙ plain_over turned 0 [] (events ds))
+    ∙ variant_keeps ms v.owner v.member alone old new m (events ds)
+    (sym (any_over (gives kinds.Term (joined v.owner new)) 0 [] (events ds)) ∙ free)
+    (all_own v.owner v.member old (events ds) (first_is old v ss first) (sym (any_over (shares v.owner (v.member ∷ [])) 0 [] (events ds)) ∙ single))
+    there
+
 pub renaming_keeps : (ds : List Definition) (name : NameNode) (new : List ℕ) (f : Name → Name) → refusal name new (seen (events ds)) ≡ None → Renames f name new (seen (events ds)) →
     (m : NameNode) → list_any (is_of m) (seen (events ds)) ≡ true →
     map (is_of (after_renaming name new (seen (events ds)) m)) (seen (events (map_definitions f ds))) ≡ map (is_of m) (seen (events ds))
 renaming_keeps ds (global kinds.Term old) new f none renames m there =
     let known = fits (global kinds.Term old) new (seen (events ds)) none in
-    let ms : List (List ℕ) = members old (seen (events ds)) in
-    global_law ms f ds kinds.Term old new m renames
-    (sym (any_over (gives kinds.Term new) 0 [] (events ds)) ∙ known.not_taken)
-    (each_by (λ e. gives_variant (global kinds.Term old) (record { event = e; number = 0; binder = None })) (Joins ms kinds.Term old new) (term_joins ms old new) (events ds)
-    (sym (any_over (λ e. gives_variant (global kinds.Term old) (record { event = e; number = 0; binder = None })) 0 [] (events ds)) ∙ known.no_variant))
-    there
+    term_law f ds old new m (first_variant old (seen (events ds))) refl known.not_double known.not_taken renames there
 renaming_keeps ds (global kinds.Constant old) new f none renames m there =
     let known = fits (global kinds.Constant old) new (seen (events ds)) none in
     let ms : List (List ℕ) = members old (seen (events ds)) in

@@ -3,8 +3,9 @@ use Rattle.std.proofs.Common.{◌≡◌, ℕ, zero, suc, ◌+◌, ◌<◌, List,
 use Rattle.std.proofs.Math.Seq.{drop-append_seam}
 use Rattle.std.proofs.lemmas.Bool.{and_parts, and_from}
 use Rattle.std.proofs.lemmas.List.Folds.{list_all-append}
-use Rattle.std.proofs.lemmas.Str.{IsUtf8-append, IsUtf8-drop, IsUtf8-take, IsUtf8-from_ascii, IsUtf8-from_is_utf8, is_utf8-from_IsUtf8, IsCharBoundary-after_ascii, chars-append, chars-nil, chars-IsAscii}
+use Rattle.std.proofs.lemmas.Str.{IsUtf8-append, IsUtf8-drop, IsUtf8-take, IsUtf8-from_ascii, IsUtf8-from_is_utf8, is_utf8-from_IsUtf8, IsCharBoundary-after_ascii, chars-append, chars-nil, chars-IsAscii, encodes-chars}
 use Rattle.std.specs.List.{list_all, list_any}
+use lib.Utf8.{encodes}
 use Rattle.std.specs.Str.{chars, is_utf8, IsAscii, IsCharBoundary, IsUtf8}
 use Rattle.isle_base.specs.Bytes.{dollar, dot, underscore}
 use Rattle.isle_base.specs.Skips.{begins_with}
@@ -89,6 +90,23 @@ cut front behind u =
       subst IsUtf8 (drop-append_seam (front ++ codes ".") behind) (IsUtf8-drop whole n u place),
     )
 
+-- an identifier with another end
+other_end : (cs ds es : List ℕ) → (cs ≡ [] → ⊥) → are_identifier (cs ++ ds) ≡ true → list_all continues_identifier es ≡ true → are_identifier (cs ++ es) ≡ true
+other_end [] ds es some h each = absurd (some refl)
+other_end (c ∷ cs) ds es some h each =
+    let p = and_parts (begins_identifier c) (list_all continues_identifier (cs ++ ds)) h in
+    let q = and_parts (list_all continues_identifier cs) (list_all continues_identifier ds) (sym (list_all-append continues_identifier cs ds) ∙ p.1) in
+    and_from (begins_identifier c) (list_all continues_identifier (cs ++ es)) p.0
+    (list_all-append continues_identifier cs es ∙ and_from (list_all continues_identifier cs) (list_all continues_identifier es) q.0 each)
+
+some_byte : (owner : List ℕ) → [] ≡ owner ++ codes "." → ⊥
+some_byte [] e = cc
+some_byte (b ∷ owner) e = cc
+
+-- a text with a dot has a character
+dotted_chars : (owner : List ℕ) → IsUtf8 (owner ++ codes ".") → chars (owner ++ codes ".") ≡ [] → ⊥
+dotted_chars owner u none = some_byte owner (sym (ap encodes none) ∙ encodes-chars (owner ++ codes ".") u)
+
 -- the name of a variant behind another type
 joined_identifier : (old new member : List ℕ) → is_identifier (joined old member) ≡ true → is_identifier new ≡ true → is_identifier (joined new member) ≡ true
 joined_identifier old new member h g =
@@ -159,7 +177,7 @@ same_text text = record { name = λ h. h; constant = λ h. h; plain = inl refl }
 pub new_text_fits : (old new : List ℕ) → is_new_name new ≡ true → CanReplace old new
 new_text_fits old new h =
     let p = fresh new h in
-    record { name = λ _. p.name; constant = λ _. with_dollar new p.name; plain = inr (p.no_word, p.no_dollar) }
+    record { name = λ _. p.name; constant = λ _. with_dollar new p.name; plain = inr (p.no_word, λ begins. clash (begins_with is_dollar new) begins p.no_dollar) }
 
 member_fits : (old new member : List ℕ) → is_new_name new ≡ true → CanReplace (joined old member) (joined new member)
 member_fits old new member h =
@@ -167,7 +185,33 @@ member_fits old new member h =
     record {
       name = λ g. joined_identifier old new member g p.name;
       constant = λ g. joined_identifier (dollar ∷ old) (dollar ∷ new) member g (with_dollar new p.name);
-      plain = inr (no_reserved (joined new member) (has-dot new member), same_begin new member p.name ∙ p.no_dollar);
+      plain = inr (no_reserved (joined new member) (has-dot new member), λ begins. clash (begins_with is_dollar (joined new member)) begins (same_begin new member p.name ∙ p.no_dollar));
+    }
+
+-- a variant with another name behind its type
+variant_identifier : (owner member new : List ℕ) → is_identifier (joined owner member) ≡ true → is_identifier new ≡ true → is_identifier (joined owner new) ≡ true
+variant_identifier owner member new h g =
+    let whole = taken_apart (joined owner member) h in
+    let last = taken_apart new g in
+    let halves = cut owner member whole.0 in
+    let front : List ℕ = chars (owner ++ codes ".") in
+    let spelt : chars (joined owner member) ≡ front ++ chars member = chars-append (owner ++ codes ".") member halves.0 in
+    let spelt_new : chars (joined owner new) ≡ front ++ chars new = chars-append (owner ++ codes ".") new halves.0 in
+    let some : are_identifier (front ++ chars member) ≡ true = sym (ap are_identifier spelt) ∙ whole.1 in
+    put_together (joined owner new) (IsUtf8-append (owner ++ codes ".") new halves.0 last.0)
+    (ap are_identifier spelt_new ∙ other_end front (chars member) (chars new) (dotted_chars owner halves.0) some (all_go_on (chars new) last.1))
+
+same_sign : (owner member new : List ℕ) → begins_with is_dollar (joined owner new) ≡ true → begins_with is_dollar (joined owner member) ≡ true
+same_sign [] member new h = h
+same_sign (b ∷ owner) member new h = h
+
+pub variant_fits : (owner member new : List ℕ) → is_new_name new ≡ true → CanReplace (joined owner member) (joined owner new)
+variant_fits owner member new h =
+    let p = fresh new h in
+    record {
+      name = λ g. variant_identifier owner member new g p.name;
+      constant = λ g. variant_identifier (dollar ∷ owner) member new g p.name;
+      plain = inr (no_reserved (joined owner new) (has-dot owner new), same_sign owner member new);
     }
 
 -- a member of a type has the type's name and a dot in front

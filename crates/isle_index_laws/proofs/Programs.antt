@@ -8,9 +8,9 @@ use Rattle.isle_base_source.specs.declared.pos.Pos.{Pos}
 use Rattle.isle_ast_names.specs.Tree.{Name}
 use Rattle.isle_resolve.specs.Event.{EventNode}
 use Rattle.isle_resolve.specs.Events.{events}
-use Rattle.isle_resolve.specs.Names.{NameNode, name_text}
+use Rattle.isle_resolve.specs.Names.{NameNode}
 use Rattle.isle_index.specs.Renamed.{replaced, same_place}
-use Rattle.isle_index.specs.Renaming.{IsAccepted}
+use Rattle.isle_index.specs.Renaming.{IsAccepted, Part, part_of}
 use Rattle.isle_resolve.specs.Scopes.{seen}
 use Rattle.isle_index_laws.specs.Kept.{AreKept}
 use Rattle.isle_index_laws.specs.RenamedTokens.{is_constant, positions, renamed_tokens}
@@ -41,12 +41,12 @@ in_this_by p file tokens false is here =
 in_this : (p : Pos) (file : ℕ) (tokens : List Lexeme) → 1 ≤ places_at p (positions (placed (in_file file) tokens)) → p.file ≡ file
 in_this p file tokens here = in_this_by p file tokens (p.file == file) refl here
 
-texts_spell : (given : NameNode) (new : List ℕ) (places : List Pos) (file : ℕ) (ts : List SpeltText) → AreSpelt file ts →
-    AreKept (replaced places (name_text given) new) (events (definitions_of ts)) → Hits (is_constant given) places file ts →
-    AreSpeltWith (replaced places (name_text given) new) (renamed_tokens places given new) file ts
-texts_spell given new places file [] spelt kept hits = tt
-texts_spell given new places file (t ∷ ts) spelt kept hits =
-    let f : Name → Name = replaced places (name_text given) new in
+texts_spell : (given : NameNode) (part : Part) (new : List ℕ) (places : List Pos) (file : ℕ) (ts : List SpeltText) → AreSpelt file ts →
+    AreKept (replaced places part new) (events (definitions_of ts)) → Hits (is_constant given) places file ts →
+    AreSpeltWith (replaced places part new) (renamed_tokens places given part new) file ts
+texts_spell given part new places file [] spelt kept hits = tt
+texts_spell given part new places file (t ∷ ts) spelt kept hits =
+    let f : Name → Name = replaced places part new in
     let c : Bool = is_constant given in
     let others = definitions_of ts in
     let tokens = spelt.0.0 in
@@ -60,7 +60,7 @@ texts_spell given new places file (t ∷ ts) spelt kept hits =
       (
         tokens,
         spelt.0.1,
-        tokens_spell t.definitions (placed (in_file file) tokens) given new places spelt.0.2 away both.0
+        tokens_spell t.definitions (placed (in_file file) tokens) given part new places spelt.0.2 away both.0
             (λ p here there.
             let inside : p.file ≡ file = in_this p file tokens here in
             let later = (text_names p (file + 1) ts spelt.1).1 (omega arith) in
@@ -68,7 +68,7 @@ texts_spell given new places file (t ∷ ts) spelt kept hits =
             let all = hits_of p (omega arith) there in
             omega arith),
       ),
-      texts_spell given new places (file + 1) ts spelt.1 both.1
+      texts_spell given part new places (file + 1) ts spelt.1 both.1
           (λ p past there.
           let none = none_elsewhere p file tokens (λ e. omega arith) in
           let most = names_at_most t.definitions (placed (in_file file) tokens) spelt.0.2 p in
@@ -78,7 +78,7 @@ texts_spell given new places file (t ∷ ts) spelt kept hits =
     )
 
 pub program_spells : (file : ℕ) (ts : List SpeltText) (given : NameNode) (new : List ℕ) (places : List Pos) → AreSpelt file ts → IsAccepted given new (seen (events (definitions_of ts))) places →
-    AreSpeltWith (replaced places (name_text given) new) (renamed_tokens places given new) file ts
+    AreSpeltWith (replaced places (part_of given (seen (events (definitions_of ts)))) new) (renamed_tokens places given (part_of given (seen (events (definitions_of ts)))) new) file ts
 program_spells file ts given new places spelt ok =
-    texts_spell given new places file ts spelt (replacing_kept (definitions_of ts) given new places (program_apart file ts spelt) ok)
+    texts_spell given (part_of given (seen (events (definitions_of ts)))) new places file ts spelt (replacing_kept (definitions_of ts) given new places (program_apart file ts spelt) ok)
     (λ p _ there. changed_names (definitions_of ts) given new places ok p there)

@@ -1,5 +1,5 @@
 -- The tokens of a text with a new name spell the definitions with that name.
-use Rattle.std.proofs.Common.{◌≡◌, ℕ, ◌+◌, ◌≤◌, List, [], ◌∷◌, ◌++◌, Bool, true, false, cond, not, ◌&&◌, ◌||◌, ◌==◌, Option, None, Some, eq-eqb, filter, map, refl, sym, ap, subst, ◌∙◌, arith}
+use Rattle.std.proofs.Common.{◌≡◌, ℕ, ◌+◌, ◌≤◌, List, [], ◌∷◌, ◌++◌, Bool, true, false, cond, not, ◌&&◌, ◌||◌, ◌==◌, Option, None, Some, eq-eqb, filter, length, map, refl, sym, ap, subst, ◌∙◌, arith}
 use Rattle.std.proofs.lemmas.Bool.{and_parts, and_from, eqb-true}
 use Rattle.std.proofs.lemmas.List.{append-nil}
 use Rattle.std.proofs.lemmas.List.Sorted.{list_any-IsPermutation}
@@ -18,13 +18,13 @@ use Rattle.isle_resolve.specs.Event.{EventNode, binds, closes, defines, defines_
 use Rattle.isle_resolve.specs.Events.{events}
 use Rattle.isle_resolve.specs.Mapped.{map_definitions}
 use Rattle.isle_resolve.specs.Names.{NameNode, gives, global, name_text, variable}
-use Rattle.isle_index.specs.Renamed.{are_apart, places_of, replaced, same_place, stands_at, with_front}
-use Rattle.isle_index.specs.Renaming.{IsAccepted, changed_places, changes, members, position, writes_member}
+use Rattle.isle_index.specs.Renamed.{are_apart, front, places_of, replaced, same_place, stands_at, with_new}
+use Rattle.isle_index.specs.Renaming.{IsAccepted, Part, changed_places, changes, members, part_of, part_text, position, writes_member}
 use Rattle.isle_resolve.specs.Scopes.{BoundNode, SeenNode, after, binder, seen, seen_from}
 use Rattle.isle_index.proofs.Places.{chosen, is_at}
 use Rattle.isle_index.proofs.Texts.{or-false}
 use Rattle.isle_index_laws.specs.Kept.{AreKept}
-use Rattle.isle_index_laws.specs.RenamedTokens.{as_written, is_constant, positions, renamed_token, renamed_tokens, with_new_front}
+use Rattle.isle_index_laws.specs.RenamedTokens.{is_constant, lead, positions, renamed_token, renamed_tokens, with_new_text}
 use Rattle.isle_index_laws.proofs.FollowedDefinitions.{definitions_follow}
 use Rattle.isle_index_laws.proofs.Follows.{Follow, KeepsPlaces}
 use Rattle.isle_index_laws.proofs.Marks.{Mark, constant, events_at, hit, is_constant_kind, marked, marks_at, name, one_if, plain, token, tokens, tokens_of, wanted}
@@ -309,64 +309,64 @@ constant_free places n ms all alone stand among =
     let there = stand n.pos (omega arith) h in
     omega arith)
 
-abbrev front : List ℕ → List ℕ → Name → Name
-front old new n = record { text = with_front old new n.text; pos = n.pos }
+abbrev parted : Part → List ℕ → Name → Name
+parted part new n = record { text = with_new (length (front part n.pos)) (part_text part) new n.text; pos = n.pos }
 
-name_by : (old new : List ℕ) (n : Name) (b : Bool) →
-    ◌≡◌ {A = Placed} (record { pos = n.pos; token = symbol (cond b (front old new n) n).text })
-    (cond b (record { pos = n.pos; token = symbol (with_front old new n.text) }) (record { pos = n.pos; token = symbol n.text }))
-name_by old new n true = refl
-name_by old new n false = refl
+name_by : (part : Part) (new : List ℕ) (n : Name) (b : Bool) →
+    ◌≡◌ {A = Placed} (record { pos = n.pos; token = symbol (cond b (parted part new n) n).text })
+    (cond b (record { pos = n.pos; token = symbol (with_new (length (lead false part n.pos)) (part_text part) new n.text) }) (record { pos = n.pos; token = symbol n.text }))
+name_by part new n true = refl
+name_by part new n false = refl
 
-constant_by : (old new : List ℕ) (n : Name) (b : Bool) →
-    ◌≡◌ {A = Placed} (record { pos = n.pos; token = symbol (dollar ∷ (cond b (front old new n) n).text) })
-    (cond b (record { pos = n.pos; token = symbol (with_front (dollar ∷ old) (dollar ∷ new) (dollar ∷ n.text)) }) (record { pos = n.pos; token = symbol (dollar ∷ n.text) }))
-constant_by old new n true = refl
-constant_by old new n false = refl
+constant_by : (part : Part) (new : List ℕ) (n : Name) (b : Bool) →
+    ◌≡◌ {A = Placed} (record { pos = n.pos; token = symbol (dollar ∷ (cond b (parted part new n) n).text) })
+    (cond b (record { pos = n.pos; token = symbol (with_new (length (lead true part n.pos)) (part_text part) new (dollar ∷ n.text)) }) (record { pos = n.pos; token = symbol (dollar ∷ n.text) }))
+constant_by part new n true = refl
+constant_by part new n false = refl
 
-still_name : (mark : List ℕ → List ℕ) (old new : List ℕ) (n : Name) (b : Bool) (t : Placed) → b ≡ false →
-    ◌≡◌ {A = Placed} (record { pos = n.pos; token = symbol (mark (cond b (front old new n) n).text) }) (cond b t (record { pos = n.pos; token = symbol (mark n.text) }))
-still_name mark old new n b t off =
-    ap (λ x. record { pos = n.pos; token = symbol (mark (cond x (front old new n) n).text) }) off ∙ sym (ap (λ x. cond x t (record { pos = n.pos; token = symbol (mark n.text) })) off)
+still_name : (mark : List ℕ → List ℕ) (part : Part) (new : List ℕ) (n : Name) (b : Bool) (t : Placed) → b ≡ false →
+    ◌≡◌ {A = Placed} (record { pos = n.pos; token = symbol (mark (cond b (parted part new n) n).text) }) (cond b t (record { pos = n.pos; token = symbol (mark n.text) }))
+still_name mark part new n b t off =
+    ap (λ x. record { pos = n.pos; token = symbol (mark (cond x (parted part new n) n).text) }) off ∙ sym (ap (λ x. cond x t (record { pos = n.pos; token = symbol (mark n.text) })) off)
 
-token_moves : (c : Bool) (places : List Pos) (old new : List ℕ) (m : Mark) (ms all : List Mark) → Once all → Stand c places all → Among (m ∷ ms) all →
-    token (replaced places old new) m ≡ renamed_token places (as_written c old) (as_written c new) (token (λ n. n) m)
-token_moves c places old new (plain t) ms all alone stand among =
-    sym (ap (λ b. cond b (record { pos = t.pos; token = with_new_front (as_written c old) (as_written c new) t.token }) t) (plain_free c places t ms all alone stand among))
-token_moves true places old new (name n) ms all alone stand among =
-    still_name (λ x. x) old new n (stands_at places n) _ (name_free places n ms all alone stand among)
-token_moves false places old new (name n) ms all alone stand among = name_by old new n (stands_at places n)
-token_moves true places old new (constant n) ms all alone stand among = constant_by old new n (stands_at places n)
-token_moves false places old new (constant n) ms all alone stand among =
-    still_name (λ x. dollar ∷ x) old new n (stands_at places n) _ (constant_free places n ms all alone stand among)
+token_moves : (c : Bool) (places : List Pos) (part : Part) (new : List ℕ) (m : Mark) (ms all : List Mark) → Once all → Stand c places all → Among (m ∷ ms) all →
+    token (replaced places part new) m ≡ renamed_token places c part new (token (λ n. n) m)
+token_moves c places part new (plain t) ms all alone stand among =
+    sym (ap (λ b. cond b (record { pos = t.pos; token = with_new_text (length (lead c part t.pos)) (part_text part) new t.token }) t) (plain_free c places t ms all alone stand among))
+token_moves true places part new (name n) ms all alone stand among =
+    still_name (λ x. x) part new n (stands_at places n) _ (name_free places n ms all alone stand among)
+token_moves false places part new (name n) ms all alone stand among = name_by part new n (stands_at places n)
+token_moves true places part new (constant n) ms all alone stand among = constant_by part new n (stands_at places n)
+token_moves false places part new (constant n) ms all alone stand among =
+    still_name (λ x. dollar ∷ x) part new n (stands_at places n) _ (constant_free places n ms all alone stand among)
 
 fewer : (m : Mark) (ms all : List Mark) → Among (m ∷ ms) all → Among ms all
 fewer (plain t) ms all among p = let h = among p in (omega arith, omega arith, omega arith)
 fewer (name n) ms all among p = let h = among p in (omega arith, omega arith, omega arith)
 fewer (constant n) ms all among p = let h = among p in (omega arith, omega arith, omega arith)
 
-tokens_move : (c : Bool) (places : List Pos) (old new : List ℕ) (ms all : List Mark) → Once all → Stand c places all → Among ms all →
-    tokens (replaced places old new) ms ≡ map (renamed_token places (as_written c old) (as_written c new)) (tokens_of ms)
-tokens_move c places old new [] all alone stand among = refl
-tokens_move c places old new (m ∷ ms) all alone stand among =
-    ap (λ t. t ∷ tokens (replaced places old new) ms) (token_moves c places old new m ms all alone stand among)
-    ∙ ap (λ ts. renamed_token places (as_written c old) (as_written c new) (token (λ n. n) m) ∷ ts) (tokens_move c places old new ms all alone stand (fewer m ms all among))
+tokens_move : (c : Bool) (places : List Pos) (part : Part) (new : List ℕ) (ms all : List Mark) → Once all → Stand c places all → Among ms all →
+    tokens (replaced places part new) ms ≡ map (renamed_token places c part new) (tokens_of ms)
+tokens_move c places part new [] all alone stand among = refl
+tokens_move c places part new (m ∷ ms) all alone stand among =
+    ap (λ t. t ∷ tokens (replaced places part new) ms) (token_moves c places part new m ms all alone stand among)
+    ∙ ap (λ ts. renamed_token places c part new (token (λ n. n) m) ∷ ts) (tokens_move c places part new ms all alone stand (fewer m ms all among))
 
-place_stays : (places : List Pos) (old new : List ℕ) (n : Name) (b : Bool) → (cond b (front old new n) n).pos ≡ n.pos
-place_stays places old new n true = refl
-place_stays places old new n false = refl
+place_stays : (places : List Pos) (part : Part) (new : List ℕ) (n : Name) (b : Bool) → (cond b (parted part new n) n).pos ≡ n.pos
+place_stays places part new n true = refl
+place_stays places part new n false = refl
 
-keeps_places : (places : List Pos) (old new : List ℕ) → KeepsPlaces (replaced places old new)
-keeps_places places old new n = place_stays places old new n (stands_at places n)
+keeps_places : (places : List Pos) (part : Part) (new : List ℕ) → KeepsPlaces (replaced places part new)
+keeps_places places part new n = place_stays places part new n (stands_at places n)
 
 -- the tokens of definitions whose names are kept
-pub tokens_spell : (ds : List Definition) (ts : List Placed) (given : NameNode) (new : List ℕ) (places : List Pos) → SpellsDefinitions ds ts → are_apart (positions ts) ≡ true →
-    AreKept (replaced places (name_text given) new) (events ds) →
+pub tokens_spell : (ds : List Definition) (ts : List Placed) (given : NameNode) (part : Part) (new : List ℕ) (places : List Pos) → SpellsDefinitions ds ts → are_apart (positions ts) ≡ true →
+    AreKept (replaced places part new) (events ds) →
     ((p : Pos) → 1 ≤ places_at p (positions ts) → list_any (same_place p) places ≡ true → 1 ≤ events_at (is_constant given) p (events ds)) →
-    SpellsDefinitions (map_definitions (replaced places (name_text given) new) ds) (renamed_tokens places given new ts)
-tokens_spell ds ts given new places h away kept hits =
-    let f : Name → Name = replaced places (name_text given) new in
-    let one : Follow f (SpellsAll SpellsDefinition (map_definitions f ds)) (events ds) ts [] = definitions_follow f (keeps_places places (name_text given) new) ds ts [] kept h in
+    SpellsDefinitions (map_definitions (replaced places part new) ds) (renamed_tokens places given part new ts)
+tokens_spell ds ts given part new places h away kept hits =
+    let f : Name → Name = replaced places part new in
+    let one : Follow f (SpellsAll SpellsDefinition (map_definitions f ds)) (events ds) ts [] = definitions_follow f (keeps_places places part new) ds ts [] kept h in
     let all : ts ≡ tokens_of one.marks = one.is ∙ append-nil (tokens_of one.marks) in
     let least : Once one.marks = marks_once ts one.marks away one.is in
     let stand : Stand (is_constant given) places one.marks = λ p here there.
@@ -375,9 +375,9 @@ tokens_spell ds ts given new places h away kept hits =
     let hit_there = hits p (omega arith) there in
     let marks_there = one.marked (is_constant given) p in
     omega arith in
-    let moved = tokens_move (is_constant given) places (name_text given) new one.marks one.marks least stand (λ p. (omega arith, omega arith, omega arith)) in
+    let moved = tokens_move (is_constant given) places part new one.marks one.marks least stand (λ p. (omega arith, omega arith, omega arith)) in
     subst (SpellsDefinitions (map_definitions f ds))
-    (append-nil (tokens f one.marks) ∙ moved ∙ sym (ap (renamed_tokens places given new) all))
+    (append-nil (tokens f one.marks) ∙ moved ∙ sym (ap (renamed_tokens places given part new) all))
     (one.spelt [])
 
 -- at each place that changes stands a name of the kind that is renamed
@@ -388,6 +388,7 @@ changed_names ds given new places ok p there =
     (list_any-IsPermutation (same_place p) (changed_places given (seen (events ds))) places ok.exact ∙ there)
 
 pub renamed_tokens_spell : (ds : List Definition) (ts : List Placed) (given : NameNode) (new : List ℕ) (places : List Pos) → SpellsDefinitions ds ts → are_apart (positions ts) ≡ true →
-    IsAccepted given new (seen (events ds)) places → SpellsDefinitions (map_definitions (replaced places (name_text given) new) ds) (renamed_tokens places given new ts)
+    IsAccepted given new (seen (events ds)) places →
+    SpellsDefinitions (map_definitions (replaced places (part_of given (seen (events ds))) new) ds) (renamed_tokens places given (part_of given (seen (events ds))) new ts)
 renamed_tokens_spell ds ts given new places h away ok =
-    tokens_spell ds ts given new places h away (replacing_kept ds given new places (names_apart ds ts h away) ok) (λ p _ there. changed_names ds given new places ok p there)
+    tokens_spell ds ts given (part_of given (seen (events ds))) new places h away (replacing_kept ds given new places (names_apart ds ts h away) ok) (λ p _ there. changed_names ds given new places ok p there)

@@ -1,5 +1,5 @@
 -- Accepted renamings keep definitions writable.
-use Rattle.std.proofs.Common.{◌≡◌, ℕ, ◌+◌, List, [], ◌∷◌, Bool, true, false, not, Option, None, Some, refl, sym, ap, subst, if◌then◌else◌}
+use Rattle.std.proofs.Common.{◌≡◌, ℕ, ◌+◌, List, [], ◌∷◌, Bool, true, false, cond, not, bytes_eq, Option, None, Some, refl, sym, ap, subst, ◌∙◌, if◌then◌else◌}
 use Rattle.std.specs.List.{AllByRecursion}
 use Rattle.isle_base_source.specs.declared.pos.Pos.{Pos}
 use Rattle.isle_ast.specs.Tree.{Definition}
@@ -10,14 +10,16 @@ use Rattle.isle_resolve.specs.declared.event.Kind.TheVariants as kinds
 use Rattle.isle_resolve.specs.Event.{EventNode, defines, uses, defines_variant, occurs, binds, reads, closes, ends}
 use Rattle.isle_resolve.specs.Events.{events}
 use Rattle.isle_resolve.specs.Mapped.{map_definitions, map_event}
-use Rattle.isle_resolve.specs.Names.{NameNode, global, variable, name_text}
-use Rattle.isle_index.specs.Renamed.{Renames, are_apart, new_event, places_of, renamed, renamed_by, replaced}
-use Rattle.isle_index.specs.Renaming.{IsAccepted, is_new_name, is_variable, members, refusal, with_text}
+use Rattle.isle_resolve.specs.Names.{NameNode, global, joined, variable, name_text}
+use Rattle.isle_index.specs.Renamed.{Renames, are_apart, new_event, new_text, places_of, renamed, renamed_by, replaced, with_member}
+use Rattle.isle_index.specs.Renaming.{IsAccepted, VariantNode, alone_places, behind_type, first_variant, is_new_name, is_variable, members, part_by, part_of, refusal, with_part, with_text}
 use Rattle.isle_resolve.specs.Scopes.{BoundNode, SeenNode, after, binder, seen, seen_from}
 use Rattle.isle_index_laws.proofs.Replaced.{replacing_renames}
 use Rattle.isle_index_laws.specs.Kept.{AreKept, CanReplace, IsKept}
 use Rattle.isle_index_laws.proofs.KeptTrees.{definitions_kept}
-use Rattle.isle_index_laws.proofs.NewNames.{new_text_fits, renamed_text_fits, same_text}
+use Rattle.isle_index_laws.proofs.NewNames.{new_text_fits, renamed_text_fits, same_text, variant_fits}
+use Rattle.isle_index_laws.proofs.Variants.{first_is}
+use Rattle.isle_resolve.proofs.Texts.{bytes-are}
 
 -- the text of an event's first name, and that of its second
 first_text : EventNode → List ℕ
@@ -81,9 +83,47 @@ either_kept : (f : Name → Name) (new : List ℕ) (e : EventNode) (b : Bool) �
 either_kept f new e true h is = variable_kept f new e h is
 either_kept f new e false h is = same_kept f e is
 
-event_kept : (f : Name → Name) (ms : List (List ℕ)) (name : NameNode) (new : List ℕ) (s : SeenNode) → is_new_name new ≡ true → map_event f s.event ≡ renamed_by ms name new s → IsKept f s.event
-event_kept f ms (global kind old) new s h is = global_kept f ms kind old new s.event h is
-event_kept f ms (variable number old) new s h is = either_kept f new s.event (is_variable number old s) h is
+-- a variant gets a new text
+
+term_fits : (owner text old new x : List ℕ) (b : Bool) → is_new_name new ≡ true → joined owner text ≡ old → bytes_eq x old ≡ b → CanReplace x (if b then joined owner new else x)
+term_fits owner text old new x true h whole is = subst (λ t. CanReplace t (joined owner new)) (whole ∙ sym (bytes-are x old is)) (variant_fits owner text new h)
+term_fits owner text old new x false h whole is = same_text x
+
+term_kept : (ms : List (List ℕ)) (owner text old new : List ℕ) (k : Kind) (x : List ℕ) → is_new_name new ≡ true → joined owner text ≡ old → CanReplace x (new_text ms kinds.Term old (joined owner new) k x)
+term_kept ms owner text old new kinds.Term x h whole = term_fits owner text old new x (bytes_eq x old) h whole refl
+term_kept ms owner text old new kinds.Type x h whole = same_text x
+term_kept ms owner text old new kinds.Constant x h whole = same_text x
+
+member_fits : (new : List ℕ) (m : Name) (b : Bool) → is_new_name new ≡ true → CanReplace m.text (cond b (record { text = new; pos = m.pos }) m).text
+member_fits new m true h = new_text_fits m.text new h
+member_fits new m false h = same_text m.text
+
+variant_kept : (f : Name → Name) (ms : List (List ℕ)) (owner text : List ℕ) (alone : List Pos) (old new : List ℕ) (e : EventNode) → is_new_name new ≡ true → joined owner text ≡ old →
+    map_event f e ≡ with_member (behind_type owner text alone) old new (new_event ms kinds.Term old (joined owner new) e) → IsKept f e
+unfolding first_text second_text
+variant_kept f ms owner text alone old new (defines k name) h whole is = by name.text _ (f name).text (ap first_text is) (term_kept ms owner text old new k name.text h whole)
+variant_kept f ms owner text alone old new (uses k name) h whole is = by name.text _ (f name).text (ap first_text is) (term_kept ms owner text old new k name.text h whole)
+variant_kept f ms owner text alone old new (defines_variant o m) h whole is = (
+  by o.text _ (f o).text (ap first_text is) (same_text o.text),
+  by m.text _ (f m).text (ap second_text is) (member_fits new m (bytes_eq (joined o.text m.text) old) h),
+)
+variant_kept f ms owner text alone old new (occurs role name) h whole is = by name.text _ (f name).text (ap first_text is) (same_text name.text)
+variant_kept f ms owner text alone old new (binds name) h whole is = by name.text _ (f name).text (ap first_text is) (same_text name.text)
+variant_kept f ms owner text alone old new (reads name) h whole is = by name.text _ (f name).text (ap first_text is) (same_text name.text)
+variant_kept f ms owner text alone old new closes h whole is = tt
+variant_kept f ms owner text alone old new ends h whole is = tt
+
+term_event_kept : (f : Name → Name) (ms : List (List ℕ)) (old new : List ℕ) (ss : List SeenNode) (found : Option VariantNode) (e : EventNode) → first_variant old ss ≡ found → is_new_name new ≡ true →
+    map_event f e ≡ with_member (part_by old found ss) old new (new_event ms kinds.Term old (with_part (part_by old found ss) new) e) → IsKept f e
+term_event_kept f ms old new ss None e first h is = global_kept f ms kinds.Term old new e h is
+term_event_kept f ms old new ss (Some v) e first h is = variant_kept f ms v.owner v.member (alone_places old ss) old new e h (first_is old v ss first) is
+
+event_kept : (f : Name → Name) (ms : List (List ℕ)) (name : NameNode) (new : List ℕ) (ss : List SeenNode) (s : SeenNode) → is_new_name new ≡ true →
+    map_event f s.event ≡ renamed_by ms (part_of name ss) name new s → IsKept f s.event
+event_kept f ms (global kinds.Type old) new ss s h is = global_kept f ms kinds.Type old new s.event h is
+event_kept f ms (global kinds.Constant old) new ss s h is = global_kept f ms kinds.Constant old new s.event h is
+event_kept f ms (global kinds.Term old) new ss s h is = term_event_kept f ms old new ss (first_variant old ss) s.event refl h is
+event_kept f ms (variable number old) new ss s h is = either_kept f new s.event (is_variable number old s) h is
 
 all_kept : (f : Name → Name) (r : SeenNode → EventNode) → ((s : SeenNode) → map_event f s.event ≡ r s → IsKept f s.event) →
     (i : ℕ) (bound : List BoundNode) (es : List EventNode) → AllByRecursion (λ s. map_event f s.event ≡ r s) (seen_from i bound es) → AreKept f es
@@ -104,17 +144,17 @@ renaming_kept : (ds : List Definition) (name : NameNode) (new : List ℕ) (f : N
 renaming_kept ds name new f none renames =
     let ss : List SeenNode = seen (events ds) in
     let h : is_new_name new ≡ true = accepted name new ss none in
-    all_kept f (renamed name new ss) (λ s is. event_kept f (members (name_text name) ss) name new s h is) 0 [] (events ds) renames
+    all_kept f (renamed name new ss) (λ s is. event_kept f (members (name_text name) ss) name new ss s h is) 0 [] (events ds) renames
 
 pub replacing_kept : (ds : List Definition) (name : NameNode) (new : List ℕ) (places : List Pos) → are_apart (places_of (seen (events ds))) ≡ true →
-    IsAccepted name new (seen (events ds)) places → AreKept (replaced places (name_text name) new) (events ds)
+    IsAccepted name new (seen (events ds)) places → AreKept (replaced places (part_of name (seen (events ds))) new) (events ds)
 replacing_kept ds name new places apart ok =
-    renaming_kept ds name new (replaced places (name_text name) new) ok.accepted (replacing_renames ds name new places apart ok)
+    renaming_kept ds name new (replaced places (part_of name (seen (events ds))) new) ok.accepted (replacing_renames ds name new places apart ok)
 
 pub renaming_writable : (ds : List Definition) (name : NameNode) (new : List ℕ) (f : Name → Name) → AreWritable ds → refusal name new (seen (events ds)) ≡ None →
     Renames f name new (seen (events ds)) → AreWritable (map_definitions f ds)
 renaming_writable ds name new f w none renames = definitions_kept ds f w (renaming_kept ds name new f none renames)
 
 pub replacing_writable : (ds : List Definition) (name : NameNode) (new : List ℕ) (places : List Pos) → AreWritable ds → are_apart (places_of (seen (events ds))) ≡ true →
-    IsAccepted name new (seen (events ds)) places → AreWritable (map_definitions (replaced places (name_text name) new) ds)
-replacing_writable ds name new places w apart ok = definitions_kept ds (replaced places (name_text name) new) w (replacing_kept ds name new places apart ok)
+    IsAccepted name new (seen (events ds)) places → AreWritable (map_definitions (replaced places (part_of name (seen (events ds))) new) ds)
+replacing_writable ds name new places w apart ok = definitions_kept ds (replaced places (part_of name (seen (events ds))) new) w (replacing_kept ds name new places apart ok)

@@ -1,5 +1,5 @@
 -- For each list of events there is a text with which none of its names begins.
-use Rattle.std.proofs.Common.{◌≡◌, ℕ, zero, suc, ◌+◌, ◌<◌, Decides, List, [], ◌∷◌, true, not, ◌&&◌, None, length, refl, ap, ◌∙◌, length-append, arith}
+use Rattle.std.proofs.Common.{◌≡◌, ℕ, zero, suc, ◌+◌, ◌<◌, ◌≤◌, Decides, List, [], ◌∷◌, ◌++◌, codes, true, not, ◌&&◌, None, length, refl, ap, ◌∙◌, length-append, arith}
 use Rattle.std.proofs.lemmas.Str.{IsUtf8-from_ascii, chars-IsAscii}
 use Rattle.std.specs.List.{list_all}
 use Rattle.std.specs.Str.{IsAscii}
@@ -9,7 +9,7 @@ use Rattle.isle_ast_names.specs.Words.{is_dollar}
 use Rattle.isle_resolve.specs.Event.{EventNode, defines, uses, defines_variant, occurs, binds, reads, closes, ends}
 use Rattle.isle_resolve.specs.Scopes.{seen}
 use Rattle.isle_resolve.specs.Names.{NameNode, joined}
-use Rattle.isle_index.specs.Renaming.{can_be_renamed, is_new_name, is_reserved, refusal}
+use Rattle.isle_index.specs.Renaming.{Part, behind_type, can_be_renamed, is_new_name, is_reserved, part_of, refusal, whole_text, with_part}
 use Rattle.isle_index_laws.specs.Fresh.{BeginsNot, IsFresh, IsNotIn}
 use Rattle.isle_index_laws.proofs.Fits.{accepted_can_be}
 use Rattle.isle_index_laws.proofs.FreshTexts.{fresh_accepted}
@@ -89,14 +89,20 @@ letters-new n = ap (λ b. b && not (begins_with is_dollar (letters (suc n))) && 
 abbrev unused : List EventNode → List ℕ
 unused es = letters (suc (sizes es))
 
-unused-fresh : (es : List EventNode) → IsFresh (unused es) es
-unused-fresh es =
+-- as a name's part it makes a name that is as long at least
+as-long : (part : Part) (text : List ℕ) → length text ≤ length (with_part part text)
+as-long (whole_text old) text = omega arith
+as-long (behind_type owner old alone) text = omega (arith, length-append (owner ++ codes ".") text)
+
+unused-fresh : (part : Part) (es : List EventNode) → IsFresh (with_part part (unused es)) es
+unused-fresh part es =
     let long : length (unused es) ≡ suc (sizes es) = letters-long (suc (sizes es)) in
-    let less : sizes es < length (unused es) = omega arith in
-    longer-fresh (unused es) es less
+    let more = as-long part (unused es) in
+    let less : sizes es < length (with_part part (unused es)) = omega arith in
+    longer-fresh (with_part part (unused es)) es less
 
 pub some_accepted : (name : NameNode) (es : List EventNode) → Decides (can_be_renamed name (seen es)) ((new : List ℕ) × (refusal name new (seen es) ≡ None))
 some_accepted name es = (
-  λ can. (unused es, fresh_accepted name (unused es) es can (letters-new (sizes es)) (unused-fresh es)),
+  λ can. (unused es, fresh_accepted name (unused es) es can (letters-new (sizes es)) (unused-fresh (part_of name (seen es)) es)),
   λ some. accepted_can_be name some.0 (seen es) some.1,
 )

@@ -10,11 +10,12 @@ use Rattle.isle_resolve.specs.Event.{EventNode, defines, uses, defines_variant, 
 use Rattle.isle_index.specs.Renaming.{is_reserved}
 
 -- The new text can stand wherever the old one can. It is an identifier if the old one is, and so it
--- is with a `$` before both. It is no reserved word and begins with no `$`, unless it is the old one.
+-- is with a `$` before both. It is no reserved word, and begins with a `$` only if the old one does,
+-- unless it is the old one.
 pub record CanReplace (old new : List ℕ) : Type 0 where
   pub name : is_identifier old ≡ true → is_identifier new ≡ true
   pub constant : is_identifier (dollar ∷ old) ≡ true → is_identifier (dollar ∷ new) ≡ true
-  pub plain : (new ≡ old) ⊎ (is_reserved new ≡ false) × (begins_with is_dollar new ≡ false)
+  pub plain : (new ≡ old) ⊎ (is_reserved new ≡ false) × (begins_with is_dollar new ≡ true → begins_with is_dollar old ≡ true)
 
 abbrev pub IsKeptName : (Name → Name) → Name → Type 0
 IsKeptName f name = CanReplace name.text (f name).text

@@ -7,9 +7,9 @@ ghost use Rattle.isle_ast.specs.Writable.{AreWritable};
 ghost use Rattle.isle_ast_names.specs.Tree.{Name};
 ghost use Rattle.isle_base.specs.Place.{Placed};
 ghost use Rattle.isle_base_source.specs.declared.pos.Pos.{Pos};
-ghost use Rattle.isle_resolve.specs.Names.{NameNode, name_text};
+ghost use Rattle.isle_resolve.specs.Names.{NameNode};
 ghost use Rattle.isle_index.specs.Renamed.{Renames, are_apart, places_of, replaced};
-ghost use Rattle.isle_index.specs.Renaming.{IsAccepted, refusal};
+ghost use Rattle.isle_index.specs.Renaming.{IsAccepted, part_of, refusal};
 ghost use Rattle.isle_resolve.specs.Scopes.{seen};
 ghost use Rattle.isle_index_laws.specs.Kept.{AreKept};
 ghost use Rattle.isle_index_laws.specs.RenamedTokens.{positions, renamed_tokens};
@@ -39,7 +39,8 @@ pub fn replacing_keeps_definitions_writable()
     ensures { (ds : List Definition) (name : NameNode) (new : List ℕ) (places : List Pos)
         → AreWritable ds → are_apart (places_of (seen (events ds))) ≡ true
         → IsAccepted name new (seen (events ds)) places
-        → AreWritable (map_definitions (replaced places (name_text name) new) ds) }
+        → AreWritable (map_definitions
+        (replaced places (part_of name (seen (events ds))) new) ds) }
 {}
 
 /// A law, which runs no code: no two names of a text are at one position, if no two tokens are.
@@ -61,8 +62,9 @@ pub fn renamed_tokens_spell_renamed_definitions()
     ensures { (ds : List Definition) (ts : List Placed) (name : NameNode) (new : List ℕ)
         (places : List Pos) → SpellsDefinitions ds ts → are_apart (positions ts) ≡ true
         → IsAccepted name new (seen (events ds)) places
-        → SpellsDefinitions (map_definitions (replaced places (name_text name) new) ds)
-        (renamed_tokens places name new ts) }
+        → SpellsDefinitions
+        (map_definitions (replaced places (part_of name (seen (events ds))) new) ds)
+        (renamed_tokens places name (part_of name (seen (events ds))) new ts) }
 {}
 
 /// A law, which runs no code: the same of a program. With the new text at the positions that
@@ -71,6 +73,8 @@ pub fn renamed_tokens_spell_renamed_programs()
     ensures { (file : ℕ) (ts : List SpeltText) (name : NameNode) (new : List ℕ)
         (places : List Pos) → AreSpelt file ts
         → IsAccepted name new (seen (events (definitions_of ts))) places
-        → AreSpeltWith (replaced places (name_text name) new) (renamed_tokens places name new)
+        → AreSpeltWith
+        (replaced places (part_of name (seen (events (definitions_of ts)))) new)
+        (renamed_tokens places name (part_of name (seen (events (definitions_of ts)))) new)
         file ts }
 {}

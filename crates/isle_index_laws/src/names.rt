@@ -5,9 +5,10 @@ ghost use Rattle.std.specs.List.{list_any};
 ghost use Rattle.isle_ast.specs.Tree.{Definition};
 ghost use Rattle.isle_ast_names.specs.Tree.{Name};
 ghost use Rattle.isle_base_source.specs.declared.pos.Pos.{Pos};
-ghost use Rattle.isle_resolve.specs.Names.{NameNode, is_of, name_text};
+ghost use Rattle.isle_resolve.specs.Names.{NameNode, is_of};
 ghost use Rattle.isle_index.specs.Renamed.{Renames, after_renaming, are_apart, places_of, replaced};
-ghost use Rattle.isle_index.specs.Renaming.{IsAccepted, can_be_renamed, is_new_name, refusal};
+ghost use Rattle.isle_index.specs.Renaming.{IsAccepted, can_be_renamed, is_new_name, part_of};
+ghost use Rattle.isle_index.specs.Renaming.{refusal, with_part};
 ghost use Rattle.isle_resolve.specs.Scopes.{SeenNode, seen};
 ghost use Rattle.isle_index_laws.specs.Fresh.{IsFresh};
 ghost use Rattle.isle_resolve.specs.Event.{EventNode};
@@ -16,12 +17,14 @@ ghost use Rattle.isle_resolve.specs.Mapped.{map_definitions};
 
 /// A law, which runs no code: the positions that `Index::rename` returns are those of the name. If
 /// no two names of the definitions are at one position, replacing the old text by the new one at
-/// these positions gives the name its new text, and leaves all other names as they are.
+/// these positions, in the part of the name that gets it, gives the name its new text, and leaves
+/// all other names as they are.
 pub fn places_are_those_of_the_name()
     ensures { (ds : List Definition) (name : NameNode) (new : List ℕ) (places : List Pos)
         → are_apart (places_of (seen (events ds))) ≡ true
         → IsAccepted name new (seen (events ds)) places
-        → Renames (replaced places (name_text name) new) name new (seen (events ds)) }
+        → Renames (replaced places (part_of name (seen (events ds))) new) name new
+        (seen (events ds)) }
 {}
 
 /// A law, which runs no code: renaming keeps what names mean. If `Index::rename` returns positions,
@@ -46,10 +49,12 @@ pub fn accepted_names_can_be_renamed()
 {}
 
 /// A law, which runs no code: a name that can be renamed, as `Index::can_be_renamed` says, gets
-/// each text that can be a new name and with which no name of the program begins.
+/// each text that can be a new name, if no name of the program begins with the name that it makes:
+/// of a variant, with its type, the dot and the text.
 pub fn fresh_texts_are_accepted()
     ensures { (name : NameNode) (new : List ℕ) (es : List EventNode)
-        → can_be_renamed name (seen es) ≡ true → is_new_name new ≡ true → IsFresh new es
+        → can_be_renamed name (seen es) ≡ true → is_new_name new ≡ true
+        → IsFresh (with_part (part_of name (seen es)) new) es
         → refusal name new (seen es) ≡ None }
 {}
 

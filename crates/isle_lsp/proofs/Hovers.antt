@@ -24,4 +24,4 @@ unshown programs file (Some position) hover none = subst (λ shown. IsTypedShown
 
 pub list_stays : (d : Data) (held : Held) (view : View) (listing : Listing) → IsTyped d held view (done (listing_data listing)) (done (listing_data listing))
 list_stays d held view listing =
-    (listing_data listing, unshown (programs_of held.documents view view.file) view.file (position_of d) (listing_data listing) (list_shows_nothing listing), refl)
+    (listing_data listing, unshown (programs_of held.encoding held.documents view view.file) view.file (position_of d) (listing_data listing) (list_shows_nothing listing), refl)

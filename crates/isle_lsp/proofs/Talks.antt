@@ -21,7 +21,7 @@ use Rattle.isle_lsp_protocol.specs.Machine.{next_state, action_of}
 use Rattle.isle_lsp_protocol.specs.declared.machine.Action.{Action}
 use Rattle.isle_lsp_protocol.specs.Decoding.{Decodes, message_in}
 use Rattle.isle_lsp_files.specs.Disks.{Moment, View}
-use Rattle.isle_lsp.specs.Serving.{Held, Sends, Shows, asked, asked_first, documents_after, folders_after, takes_after, watches_after}
+use Rattle.isle_lsp.specs.Serving.{Held, Sends, Shows, asked, asked_first, documents_after, encoding_after, folders_after, takes_after, watches_after}
 use Rattle.isle_lsp.specs.Conversations.{AnswersAs, AnswersWithin, Conversation, Converses, EndsAs, Explains, FromFault, IsCut, IsEarly, IsOver, IsRefusal, IsShort, Ran, ShowsWithin, StopsAt, World, answered, begun, frames, has_exited, nothing}
 
 frames-append : (xs ys : List (List ℕ)) → frames (xs ++ ys) ≡ frames xs ++ frames ys
@@ -33,8 +33,8 @@ appends_none None = tt
 appends_none (Some x) = sym (append-nil x)
 
 -- what is done with a message
-pub prepared : {E : Type 0} (old new : Held) (body : List ℕ) (json : Option Data) (state : State) (action : Action) (opened view : View) (moments : List Moment) (middle left : Option (List Moment)) (r : Result (Vec (String Global)) E) → Decodes body json → state ≡ next_state old.state (message_in json) → action ≡ action_of old.state (message_in json) → ShowsWithin (asked_first action json) moments middle opened → new.state ≡ state → new.documents ≡ documents_after action json opened old.documents → new.folders ≡ folders_after action json old.folders → new.takes_document_changes ≡ takes_after action json old.takes_document_changes → new.watches_files ≡ watches_after action json old.watches_files → ((between : List Moment) → middle ≡ Some between → ShowsWithin (asked action json new) between left view) → IfOk r (λ sent. Sends action json new view (map string_bytes sent.items)) → IfOk r (λ sent. AnswersWithin old moments body new left (map string_bytes sent.items))
-prepared old new body json state action opened view moments middle left (Ok sent) d s t opens n docs folders takes watches shows sends =
+pub prepared : {E : Type 0} (old new : Held) (body : List ℕ) (json : Option Data) (state : State) (action : Action) (opened view : View) (moments : List Moment) (middle left : Option (List Moment)) (r : Result (Vec (String Global)) E) → Decodes body json → state ≡ next_state old.state (message_in json) → action ≡ action_of old.state (message_in json) → ShowsWithin (asked_first action json) moments middle opened → new.state ≡ state → new.documents ≡ documents_after old.encoding action json opened old.documents → new.encoding ≡ encoding_after action json old.encoding → new.folders ≡ folders_after action json old.folders → new.takes_document_changes ≡ takes_after action json old.takes_document_changes → new.watches_files ≡ watches_after action json old.watches_files → ((between : List Moment) → middle ≡ Some between → ShowsWithin (asked action json new) between left view) → IfOk r (λ sent. Sends action json new view (map string_bytes sent.items)) → IfOk r (λ sent. AnswersWithin old moments body new left (map string_bytes sent.items))
+prepared old new body json state action opened view moments middle left (Ok sent) d s t opens n docs encoding folders takes watches shows sends =
     let last = shows opens.0 opens.1 in (
       last.0,
       last.1,
@@ -46,7 +46,8 @@ prepared old new body json state action opened view moments middle left (Ok sent
         decodes = d;
         opens = subst (λ u. Shows (asked_first u json) moments opens.0 opened) t opens.2;
         state = n ∙ s;
-        documents = docs ∙ ap (λ u. documents_after u json opened old.documents) t;
+        documents = docs ∙ ap (λ u. documents_after old.encoding u json opened old.documents) t;
+        encoding = encoding ∙ ap (λ u. encoding_after u json old.encoding) t;
         folders = folders ∙ ap (λ u. folders_after u json old.folders) t;
         takes = takes ∙ ap (λ u. takes_after u json old.takes_document_changes) t;
         watches = watches ∙ ap (λ u. watches_after u json old.watches_files) t;
@@ -54,7 +55,7 @@ prepared old new body json state action opened view moments middle left (Ok sent
         sends = subst (λ u. Sends u json new view (map string_bytes sent.items)) t sends;
       },
     )
-prepared old new body json state action opened view moments middle left (Err e) d s t opens n docs folders takes watches shows sends = tt
+prepared old new body json state action opened view moments middle left (Err e) d s t opens n docs encoding folders takes watches shows sends = tt
 
 -- what is sent is written, or a beginning of it
 pub answers_as : (old new : Held) (moments : List Moment) (left : Option (List Moment)) (body : List ℕ) (sent : List (List ℕ)) (before after : Option (List ℕ)) → AnswersWithin old moments body new left sent → Appends before after (frames sent) → AnswersAs old moments body new left before after

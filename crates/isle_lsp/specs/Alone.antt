@@ -16,11 +16,12 @@ use Rattle.isle_lsp_ranges.specs.Selections.{AreSelections}
 use Rattle.isle_lsp_text.specs.declared.positions.Position.{Position}
 use Rattle.isle_lsp_text.specs.declared.positions.Range.{Range}
 use Rattle.isle_lsp.specs.Formatted.{IsFormatting, is_blank_at}
+use Rattle.isle_lsp_text.specs.declared.positions.PositionEncoding.{PositionEncoding}
 
 -- the edits that format the lines of a range of a text; null if the text cannot be formatted
-abbrev pub IsFormattingWithin : List ℕ → Range → Data → Type 0
-IsFormattingWithin text range d =
-    (HasNoDocument text × (d ≡ null)) ⊎ ((tidy : List ℕ) × IsTidyTextOf text tidy × IsRangeFormatting text tidy range d)
+abbrev pub IsFormattingWithin : PositionEncoding → List ℕ → Range → Data → Type 0
+IsFormattingWithin enc text range d =
+    (HasNoDocument text × (d ≡ null)) ⊎ ((tidy : List ℕ) × IsTidyTextOf text tidy × IsRangeFormatting enc text tidy range d)
 
 -- the result is such data
 abbrev pub Gives : (Data → Type 0) → Outcome → Type 0
@@ -37,24 +38,24 @@ GivesAt Is None o = o ≡ error_outcome InvalidParams
 GivesAt Is (Some positions) o = Gives (Is positions) o
 
 -- The edits that format a line in which a character was typed. Of a blank line there are none: they would remove the line that has just been made.
-abbrev pub FormatsUnless : (blank : Bool) → List ℕ → Option Range → Outcome → Type 0
-FormatsUnless true text range o = o ≡ done null
-FormatsUnless false text range o = GivesWithin (IsFormattingWithin text) range o
+abbrev pub FormatsUnless : PositionEncoding → (blank : Bool) → List ℕ → Option Range → Outcome → Type 0
+FormatsUnless enc true text range o = o ≡ done null
+FormatsUnless enc false text range o = GivesWithin (IsFormattingWithin enc text) range o
 
-abbrev pub IsLineFormatting : List ℕ → Option Range → Outcome → Type 0
-IsLineFormatting text range o = FormatsUnless (is_blank_at text range) text range o
+abbrev pub IsLineFormatting : PositionEncoding → List ℕ → Option Range → Outcome → Type 0
+IsLineFormatting enc text range o = FormatsUnless enc (is_blank_at enc text range) text range o
 
 -- the outcome of a request with this message about a document
-abbrev pub IsOfDocument : DocumentRequest → (message : Data) → Document → Outcome → Type 0
-IsOfDocument Formatting message document o = Gives (IsFormatting document.text) o
-IsOfDocument RangeFormatting message document o = GivesWithin (IsFormattingWithin document.text) (range_of message) o
-IsOfDocument OnTypeFormatting message document o = IsLineFormatting document.text (typed_range message) o
-IsOfDocument FoldingRange message document o = Gives (AreFoldings document.text) o
-IsOfDocument SelectionRange message document o = GivesAt (AreSelections document.text) (positions_of message) o
-IsOfDocument SemanticTokens message document o = Gives (AreTokens document.text None) o
-IsOfDocument SemanticTokensRange message document o = GivesWithin (λ range. AreTokens document.text (Some range)) (range_of message) o
+abbrev pub IsOfDocument : PositionEncoding → DocumentRequest → (message : Data) → Document → Outcome → Type 0
+IsOfDocument enc Formatting message document o = Gives (IsFormatting enc document.text) o
+IsOfDocument enc RangeFormatting message document o = GivesWithin (IsFormattingWithin enc document.text) (range_of message) o
+IsOfDocument enc OnTypeFormatting message document o = IsLineFormatting enc document.text (typed_range message) o
+IsOfDocument enc FoldingRange message document o = Gives (AreFoldings document.text) o
+IsOfDocument enc SelectionRange message document o = GivesAt (AreSelections enc document.text) (positions_of message) o
+IsOfDocument enc SemanticTokens message document o = Gives (AreTokens enc document.text None) o
+IsOfDocument enc SemanticTokensRange message document o = GivesWithin (λ range. AreTokens enc document.text (Some range)) (range_of message) o
 
 -- the same of the document that the message names, which may not be open
-abbrev pub IsAlone : DocumentRequest → (message : Data) → Option Document → Outcome → Type 0
-IsAlone request message None o = o ≡ error_outcome InvalidParams
-IsAlone request message (Some document) o = IsOfDocument request message document o
+abbrev pub IsAlone : PositionEncoding → DocumentRequest → (message : Data) → Option Document → Outcome → Type 0
+IsAlone enc request message None o = o ≡ error_outcome InvalidParams
+IsAlone enc request message (Some document) o = IsOfDocument enc request message document o

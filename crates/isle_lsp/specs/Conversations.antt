@@ -14,7 +14,8 @@ use Rattle.isle_lsp_protocol.specs.declared.machine.State.{State}
 use Rattle.isle_lsp_protocol.specs.declared.machine.State.TheVariants.{Fresh, Running, ShutDown, Ended, Aborted}
 use Rattle.isle_lsp_protocol.specs.Decoding.{Decodes, message_in}
 use Rattle.isle_lsp_files.specs.Disks.{Asked, Moment, View}
-use Rattle.isle_lsp.specs.Serving.{Held, Sends, Shows, asked, asked_first, documents_after, folders_after, takes_after, watches_after}
+use Rattle.isle_lsp.specs.Serving.{Held, Sends, Shows, asked, asked_first, documents_after, encoding_after, folders_after, takes_after, watches_after}
+use Rattle.isle_lsp_text.specs.declared.positions.PositionEncoding.TheVariants.{Utf16}
 
 -- The message changes the server's state from old to new, and these messages are sent. What each of both needs of the disk, the disk shows at
 -- the next moment.
@@ -26,7 +27,8 @@ pub record Answers (old : Held) (moments : List Moment) (body : List ℕ) (new :
   pub decodes : Decodes body json
   pub opens : Shows (asked_first (action_of old.state (message_in json)) json) moments between opened
   pub state : new.state ≡ next_state old.state (message_in json)
-  pub documents : new.documents ≡ documents_after (action_of old.state (message_in json)) json opened old.documents
+  pub documents : new.documents ≡ documents_after old.encoding (action_of old.state (message_in json)) json opened old.documents
+  pub encoding : new.encoding ≡ encoding_after (action_of old.state (message_in json)) json old.encoding
   pub folders : new.folders ≡ folders_after (action_of old.state (message_in json)) json old.folders
   pub takes : new.takes_document_changes ≡ takes_after (action_of old.state (message_in json)) json old.takes_document_changes
   pub watches : new.watches_files ≡ watches_after (action_of old.state (message_in json)) json old.watches_files
@@ -39,7 +41,7 @@ frames (text ∷ texts) = frame text ++ frames texts
 
 -- the server's first state
 abbrev pub nothing : Held
-nothing = record { state = Fresh; documents = []; folders = []; takes_document_changes = false; watches_files = false }
+nothing = record { state = Fresh; encoding = Utf16; documents = []; folders = []; takes_document_changes = false; watches_files = false }
 
 -- what comes in: the bytes of the client, and the moments of the disk
 pub record World : Type 0 where

@@ -27,11 +27,13 @@ use Rattle.isle_lsp_diagnostics.specs.Hovers.{IsTypedHover}
 use Rattle.isle_lsp_diagnostics.specs.Published.{IsPublished}
 use Rattle.isle_lsp_text.specs.declared.positions.Range.{Range}
 use Rattle.isle_lsp.specs.declared.server.Server.{Server}
+use Rattle.isle_lsp_text.specs.declared.positions.PositionEncoding.{PositionEncoding}
 
--- the state of the server: of the session, the open documents, the folders by their URIs, whether the client takes edits with versions, and whether it
--- watches files
+-- the state of the server: of the session, how positions are counted, the open documents, the folders by their URIs, whether the client takes edits with
+-- versions, and whether it watches files
 pub record Held : Type 0 where
   pub state : State
+  pub encoding : PositionEncoding
   pub documents : List Document
   pub folders : List (List ℕ)
   pub takes_document_changes : Bool
@@ -41,6 +43,7 @@ abbrev pub held_of : Server → Held
 held_of s =
     record {
       state = s.state;
+      encoding = s.encoding;
       documents = map document_of s.documents.items;
       folders = map string_bytes s.folders.items;
       takes_document_changes = s.takes_document_changes;
@@ -109,12 +112,12 @@ question request d held view =
 
 -- the outcome of a request about names: of the open documents, and of the files that the disk shows
 abbrev pub IsNamed : requests.Request → Data → Held → View → Outcome → Type 0
-IsNamed request d held view o = names.IsAnswer (question request d held view) (program_of (is_some (parameters.uri_of d)) held.documents view) o
+IsNamed request d held view o = names.IsAnswer (question request d held view) (program_of held.encoding (is_some (parameters.uri_of d)) held.documents view) o
 
 -- the outcome of a hover, from that of a request about names: with the type of a variable, by the programs that have the view's file
 abbrev pub IsTyped : Data → Held → View → (plain o : Outcome) → Type 0
 IsTyped d held view (done hover) o =
-    (typed : Data) × IsTypedHover (programs_of held.documents view view.file) view.file (parameters.position_of d) hover typed × (o ≡ done typed)
+    (typed : Data) × IsTypedHover (programs_of held.encoding held.documents view view.file) view.file (parameters.position_of d) hover typed × (o ≡ done typed)
 IsTyped d held view (failed code reason) o = o ≡ failed code reason
 
 -- the outcome of a hover
@@ -126,8 +129,8 @@ abbrev pub named_range : Data → Option Range
 named_range d = option_and_then (λ uri. parameters.range_of d) (parameters.uri_of d)
 
 -- the types of variables in a range of the view's file: of the programs that have it, as their files are open or as the disk shows them
-abbrev pub AreViewHints : List Document → View → Range → Data → Type 0
-AreViewHints docs view range d = AreHints (programs_of docs view view.file) view.file range d
+abbrev pub AreViewHints : PositionEncoding → List Document → View → Range → Data → Type 0
+AreViewHints enc docs view range d = AreHints (programs_of enc docs view view.file) view.file range d
 
 -- the texts of these programs
 abbrev pub texts_of : List (List Text) → List (List (List ℕ))
@@ -136,7 +139,7 @@ texts_of programs = map (map bytes_of) programs
 -- the code actions in an open document, which may look at the programs that have the view's file
 abbrev pub AreDocumentActions : Data → Held → View → Document → Data → Type 0
 AreDocumentActions message held view document d =
-    AreActions held.takes_document_changes document.uri document.version document.text (texts_of (programs_of held.documents view view.file)) message d
+    AreActions held.encoding held.takes_document_changes document.uri document.version document.text (texts_of (programs_of held.encoding held.documents view view.file)) message d
 
 abbrev pub GivesActions : Data → Held → View → Option Document → Outcome → Type 0
 GivesActions message held view None o = o ≡ error_outcome InvalidParams
@@ -144,11 +147,11 @@ GivesActions message held view (Some document) o = Gives (AreDocumentActions mes
 
 -- the outcome of a request with these parameters, in this state
 abbrev pub IsResult : requests.Request → Data → Held → View → Outcome → Type 0
-IsResult Initialize d held view o = o ≡ done initialize_result
+IsResult Initialize d held view o = o ≡ done (initialize_result held.encoding)
 IsResult Shutdown d held view o = o ≡ done null
-IsResult (Alone request) d held view o = IsAlone request d (document_in d held.documents) o
+IsResult (Alone request) d held view o = IsAlone held.encoding request d (document_in d held.documents) o
 IsResult Hover d held view o = IsHover d held view o
-IsResult InlayHint d held view o = GivesWithin (AreViewHints held.documents view) (named_range d) o
+IsResult InlayHint d held view o = GivesWithin (AreViewHints held.encoding held.documents view) (named_range d) o
 IsResult CodeAction d held view o = GivesActions d held view (document_in d held.documents) o
 IsResult Unknown d held view o = o ≡ error_outcome MethodNotFound
 IsResult request d held view o = IsNamed request d held view o
@@ -163,37 +166,42 @@ abbrev pub did_open : (uri : List ℕ) → (text : Option (List ℕ)) → Data �
 did_open uri None d view docs = docs
 did_open uri (Some text) d view docs = without uri docs ++ document uri view.file (parameters.version_of d) text ∷ []
 
-abbrev pub did_change : (uri : List ℕ) → Option Document → Data → List Document → List Document
-did_change uri None d docs = docs
-did_change uri (Some old) d docs = without uri docs ++ document uri old.file (parameters.version_of d) (parameters.text_after d old.text) ∷ []
+abbrev pub did_change : PositionEncoding → (uri : List ℕ) → Option Document → Data → List Document → List Document
+did_change enc uri None d docs = docs
+did_change enc uri (Some old) d docs = without uri docs ++ document uri old.file (parameters.version_of d) (parameters.text_after enc d old.text) ∷ []
 
 -- the documents after a notification about one
-abbrev pub documents_noted : notifications.Notification → List ℕ → Data → View → List Document → List Document
-documents_noted DidOpen uri d view docs = did_open uri (parameters.text_of d) d view docs
-documents_noted DidChange uri d view docs = did_change uri (document_at uri docs) d docs
-documents_noted DidClose uri d view docs = without uri docs
-documents_noted _ uri d view docs = docs
+abbrev pub documents_noted : PositionEncoding → notifications.Notification → List ℕ → Data → View → List Document → List Document
+documents_noted enc DidOpen uri d view docs = did_open uri (parameters.text_of d) d view docs
+documents_noted enc DidChange uri d view docs = did_change enc uri (document_at uri docs) d docs
+documents_noted enc DidClose uri d view docs = without uri docs
+documents_noted enc _ uri d view docs = docs
 
-abbrev pub documents_named : notifications.Notification → Option (List ℕ) → Data → View → List Document → List Document
-documents_named notification None d view docs = docs
-documents_named notification (Some uri) d view docs = documents_noted notification uri d view docs
+abbrev pub documents_named : PositionEncoding → notifications.Notification → Option (List ℕ) → Data → View → List Document → List Document
+documents_named enc notification None d view docs = docs
+documents_named enc notification (Some uri) d view docs = documents_noted enc notification uri d view docs
 
-abbrev pub documents_after_notification : notifications.Notification → Option Data → View → List Document → List Document
-documents_after_notification notification None view docs = docs
-documents_after_notification notification (Some d) view docs = documents_named notification (parameters.uri_of d) d view docs
+abbrev pub documents_after_notification : PositionEncoding → notifications.Notification → Option Data → View → List Document → List Document
+documents_after_notification enc notification None view docs = docs
+documents_after_notification enc notification (Some d) view docs = documents_named enc notification (parameters.uri_of d) d view docs
 
 -- the documents after a message
-abbrev pub documents_after : actions.Action → Option Data → View → List Document → List Document
-documents_after (Handle notification) d view docs = documents_after_notification notification d view docs
-documents_after Ignore d view docs = docs
-documents_after (Answer request) d view docs = docs
-documents_after (Reject c) d view docs = docs
+abbrev pub documents_after : PositionEncoding → actions.Action → Option Data → View → List Document → List Document
+documents_after enc (Handle notification) d view docs = documents_after_notification enc notification d view docs
+documents_after enc Ignore d view docs = docs
+documents_after enc (Answer request) d view docs = docs
+documents_after enc (Reject c) d view docs = docs
 
 -- the folders after a message
 abbrev pub folders_after : actions.Action → Option Data → List (List ℕ) → List (List ℕ)
 folders_after (Answer Initialize) (Some d) folders = parameters.folders_of d
 folders_after (Handle DidChangeWorkspaceFolders) (Some d) folders = parameters.folders_after d folders
 folders_after action d folders = folders
+
+-- how positions are counted after a message
+abbrev pub encoding_after : actions.Action → Option Data → PositionEncoding → PositionEncoding
+encoding_after (Answer Initialize) (Some d) enc = parameters.encoding_of d
+encoding_after action d enc = enc
 
 -- whether the client takes edits with versions, after a message
 abbrev pub takes_after : actions.Action → Option Data → Bool → Bool
@@ -215,9 +223,9 @@ text_of document = option_map (λ d. d.text) document
 
 -- the text publishes the diagnostics of a document, which is this file, or none if it is not open: those of its text, and those of the programs
 -- that have the file, as their files are open or as the disk shows them
-abbrev pub IsReport : List Document → View → (uri file text : List ℕ) → Type 0
-IsReport docs view uri file text =
-    IsPublished uri (version_of (document_at uri docs)) (programs_of docs view file) file (text_of (document_at uri docs)) text
+abbrev pub IsReport : PositionEncoding → List Document → View → (uri file text : List ℕ) → Type 0
+IsReport enc docs view uri file text =
+    IsPublished enc uri (version_of (document_at uri docs)) (programs_of enc docs view file) file (text_of (document_at uri docs)) text
 
 abbrev pub is_named : Option (List ℕ) → Document → Bool
 is_named None d = false
@@ -231,24 +239,24 @@ abbrev pub others : (all : Bool) → (uri : Option (List ℕ)) → View → List
 others all uri view docs = filter (is_other all uri view) docs
 
 -- the diagnostics of each of these documents are published
-abbrev pub AreReports : List Document → View → (reported : List Document) → (sent : List (List ℕ)) → Type 0
-AreReports docs view [] sent = sent ≡ []
-AreReports docs view (d ∷ ds) sent =
-    (text : List ℕ) × (more : List (List ℕ)) × (sent ≡ text ∷ more) × IsReport docs view d.uri d.file text × AreReports docs view ds more
+abbrev pub AreReports : PositionEncoding → List Document → View → (reported : List Document) → (sent : List (List ℕ)) → Type 0
+AreReports enc docs view [] sent = sent ≡ []
+AreReports enc docs view (d ∷ ds) sent =
+    (text : List ℕ) × (more : List (List ℕ)) × (sent ≡ text ∷ more) × IsReport enc docs view d.uri d.file text × AreReports enc docs view ds more
 
 -- the diagnostics of the document that a message names are published, and then those of the others
-abbrev pub Publishes : (all : Bool) → List ℕ → List Document → View → List (List ℕ) → Type 0
-Publishes all uri docs view sent =
-    (text : List ℕ) × (more : List (List ℕ)) × (sent ≡ text ∷ more) × IsReport docs view uri view.file text
-    × AreReports docs view (others all (Some uri) view docs) more
+abbrev pub Publishes : PositionEncoding → (all : Bool) → List ℕ → List Document → View → List (List ℕ) → Type 0
+Publishes enc all uri docs view sent =
+    (text : List ℕ) × (more : List (List ℕ)) × (sent ≡ text ∷ more) × IsReport enc docs view uri view.file text
+    × AreReports enc docs view (others all (Some uri) view docs) more
 
-abbrev pub PublishesNamed : (all : Bool) → Option (List ℕ) → List Document → View → List (List ℕ) → Type 0
-PublishesNamed all None docs view sent = sent ≡ []
-PublishesNamed all (Some uri) docs view sent = Publishes all uri docs view sent
+abbrev pub PublishesNamed : PositionEncoding → (all : Bool) → Option (List ℕ) → List Document → View → List (List ℕ) → Type 0
+PublishesNamed enc all None docs view sent = sent ≡ []
+PublishesNamed enc all (Some uri) docs view sent = Publishes enc all uri docs view sent
 
 -- the diagnostics of all open documents are published
-abbrev pub PublishesOpen : List Document → View → List (List ℕ) → Type 0
-PublishesOpen docs view sent = AreReports docs view (others true None view docs) sent
+abbrev pub PublishesOpen : PositionEncoding → List Document → View → List (List ℕ) → Type 0
+PublishesOpen enc docs view sent = AreReports enc docs view (others true None view docs) sent
 
 -- the client is asked to watch files, if it does
 abbrev pub Asks : (watches : Bool) → List (List ℕ) → Type 0
@@ -259,11 +267,11 @@ Asks true sent = (text : List ℕ) × (sent ≡ text ∷ []) × (read text ≡ S
 -- published, and those of all documents after folders or files on disk have changed.
 abbrev pub Handles : notifications.Notification → Option (List ℕ) → Held → View → List (List ℕ) → Type 0
 Handles Initialized uri held view sent = Asks held.watches_files sent
-Handles DidOpen uri held view sent = PublishesNamed false uri held.documents view sent
-Handles DidChange uri held view sent = PublishesNamed false uri held.documents view sent
-Handles DidClose uri held view sent = PublishesNamed true uri held.documents view sent
-Handles DidChangeWorkspaceFolders uri held view sent = PublishesOpen held.documents view sent
-Handles DidChangeWatchedFiles uri held view sent = PublishesOpen held.documents view sent
+Handles DidOpen uri held view sent = PublishesNamed held.encoding false uri held.documents view sent
+Handles DidChange uri held view sent = PublishesNamed held.encoding false uri held.documents view sent
+Handles DidClose uri held view sent = PublishesNamed held.encoding true uri held.documents view sent
+Handles DidChangeWorkspaceFolders uri held view sent = PublishesOpen held.encoding held.documents view sent
+Handles DidChangeWatchedFiles uri held view sent = PublishesOpen held.encoding held.documents view sent
 Handles _ uri held view sent = sent ≡ []
 
 -- ---- messages to the client

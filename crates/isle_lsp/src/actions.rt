@@ -56,7 +56,13 @@ fn actions_in<'a>(
         (outcome_of outcome)) }
     ensures err { IfErr result (λ failure. failure ≡ Memory) }
 {
-    let programs = programs_of(alloc, &server.documents, shown, shown.file.as_str())?;
+    let programs = programs_of(
+        alloc,
+        server.encoding,
+        &server.documents,
+        shown,
+        shown.file.as_str(),
+    )?;
     let texts = texts_of(alloc, &programs)?;
     let document = isle_lsp_actions::Document {
         uri: document.uri.as_str(),
@@ -64,7 +70,14 @@ fn actions_in<'a>(
         text: document.text.as_str(),
     };
     let takes_document_changes = server.takes_document_changes;
-    let actions = code_actions(alloc, document, &texts, message, takes_document_changes)?;
+    let actions = code_actions(
+        alloc,
+        server.encoding,
+        document,
+        &texts,
+        message,
+        takes_document_changes,
+    )?;
     Ok(Outcome::Done(actions))
 }
 

@@ -20,64 +20,77 @@ use isle_lsp_protocol::parameters::{positions_of, range_of, typed_range};
 use isle_lsp_protocol::replies::{Outcome, error_outcome};
 use isle_lsp_ranges::folding::folding_ranges;
 use isle_lsp_ranges::selection::selection_ranges;
-use isle_lsp_text::positions::Range;
+use isle_lsp_text::positions::{PositionEncoding, Range};
 use serde_json::Value;
 use std::alloc::{AllocError, Global};
 
 /// The outcome of a request about a document, or an error if it is not open.
 pub fn outcome_alone<'a>(
     alloc: Global,
+    encoding: PositionEncoding,
     request: DocumentRequest,
     message: &Value,
     document: Option<&Document>,
 ) -> Result<Outcome<'a>, Failure>
-    ensures ok { IfOk result (λ outcome. IsAlone request (view message.now)
+    ensures ok { IfOk result (λ outcome. IsAlone encoding request (view message.now)
         (option_map (λ d. document_of d.now) document.entry)
         (outcome_of outcome)) }
     ensures err { IfErr result (λ failure. failure ≡ Memory) }
 {
     match document {
-        Some(document) => outcome_of_document(alloc, request, message, document),
+        Some(document) => outcome_of_document(alloc, encoding, request, message, document),
         None => Ok(error_outcome(ErrorCode::InvalidParams)),
     }
 }
 
 fn outcome_of_document<'a>(
     alloc: Global,
+    encoding: PositionEncoding,
     request: DocumentRequest,
     message: &Value,
     document: &Document,
 ) -> Result<Outcome<'a>, Failure>
-    ensures ok { IfOk result (λ outcome. IsOfDocument request (view message.now)
+    ensures ok { IfOk result (λ outcome. IsOfDocument encoding request (view message.now)
         (document_of document.now) (outcome_of outcome)) }
     ensures err { IfErr result (λ failure. failure ≡ Memory) }
 {
     let text = document.text.as_str();
     match request {
-        DocumentRequest::Formatting => Ok(Outcome::Done(formatting(alloc, text)?)),
-        DocumentRequest::RangeFormatting => formatted_range(alloc, text, range_of(message)),
-        DocumentRequest::OnTypeFormatting => formatted_line(alloc, text, typed_range(message)),
+        DocumentRequest::Formatting => Ok(Outcome::Done(formatting(alloc, encoding, text)?)),
+        DocumentRequest::RangeFormatting => formatted_range(
+            alloc,
+            encoding,
+            text,
+            range_of(message),
+        ),
+        DocumentRequest::OnTypeFormatting => formatted_line(
+            alloc,
+            encoding,
+            text,
+            typed_range(message),
+        ),
         DocumentRequest::FoldingRange => Ok(Outcome::Done(folding_ranges(alloc, text)?)),
-        DocumentRequest::SelectionRange => Ok(selections(alloc, text, message)?),
+        DocumentRequest::SelectionRange => Ok(selections(alloc, encoding, text, message)?),
         DocumentRequest::SemanticTokens => {
-            Ok(Outcome::Done(semantic_tokens(alloc, text, None)?))
+            Ok(Outcome::Done(semantic_tokens(alloc, encoding, text, None)?))
         }
-        DocumentRequest::SemanticTokensRange => Ok(tokens_within(alloc, text, message)?),
+        DocumentRequest::SemanticTokensRange => Ok(tokens_within(alloc, encoding, text, message)?),
     }
 }
 
 /// The edits that format the lines of a range, if a message has one.
 fn formatted_range<'a>(
     alloc: Global,
+    encoding: PositionEncoding,
     text: &str,
     range: Option<Range>,
 ) -> Result<Outcome<'a>, Failure>
-    ensures ok { IfOk result (λ outcome. GivesWithin (IsFormattingWithin text.now) range
+    ensures ok { IfOk result (λ outcome. GivesWithin (IsFormattingWithin encoding text.now) range
         (outcome_of outcome)) }
     ensures err { IfErr result (λ failure. failure ≡ Memory) }
 {
     match range {
-        Some(range) => Ok(Outcome::Done(formatting_within(alloc, text, range)?)),
+        Some(range) => Ok(Outcome::Done(formatting_within(alloc, encoding, text, range)?)),
         None => Ok(error_outcome(ErrorCode::InvalidParams)),
     }
 }
@@ -86,37 +99,49 @@ fn formatted_range<'a>(
 /// would remove the line that has just been made.
 fn formatted_line<'a>(
     alloc: Global,
+    encoding: PositionEncoding,
     text: &str,
     range: Option<Range>,
 ) -> Result<Outcome<'a>, Failure>
     ensures ok { IfOk result
-        (λ outcome. IsLineFormatting text.now range (outcome_of outcome)) }
+        (λ outcome. IsLineFormatting encoding text.now range (outcome_of outcome)) }
     ensures err { IfErr result (λ failure. failure ≡ Memory) }
 {
-    if is_blank_at(text, range) {
+    if is_blank_at(encoding, text, range) {
         return Ok(Outcome::Done(Value::Null));
     }
-    formatted_range(alloc, text, range)
+    formatted_range(alloc, encoding, text, range)
 }
 
 /// What a selection grows to from each position in a message.
-fn selections<'a>(alloc: Global, text: &str, message: &Value) -> Result<Outcome<'a>, AllocError>
-    ensures { IfOk result (λ outcome. GivesAt (AreSelections text.now)
+fn selections<'a>(
+    alloc: Global,
+    encoding: PositionEncoding,
+    text: &str,
+    message: &Value,
+) -> Result<Outcome<'a>, AllocError>
+    ensures { IfOk result (λ outcome. GivesAt (AreSelections encoding text.now)
         (parameters.positions_of (view message.now)) (outcome_of outcome)) }
 {
     match positions_of(alloc, message)? {
-        Some(positions) => Ok(Outcome::Done(selection_ranges(alloc, text, &positions)?)),
+        Some(positions) => Ok(Outcome::Done(selection_ranges(alloc, encoding, text, &positions)?)),
         None => Ok(error_outcome(ErrorCode::InvalidParams)),
     }
 }
 
 /// The tokens of the range in a message.
-fn tokens_within<'a>(alloc: Global, text: &str, message: &Value) -> Result<Outcome<'a>, AllocError>
-    ensures { IfOk result (λ outcome. GivesWithin (λ range. AreTokens text.now (Some range))
+fn tokens_within<'a>(
+    alloc: Global,
+    encoding: PositionEncoding,
+    text: &str,
+    message: &Value,
+) -> Result<Outcome<'a>, AllocError>
+    ensures { IfOk result (λ outcome. GivesWithin
+        (λ range. AreTokens encoding text.now (Some range))
         (parameters.range_of (view message.now)) (outcome_of outcome)) }
 {
     match range_of(message) {
-        Some(range) => Ok(Outcome::Done(semantic_tokens(alloc, text, Some(range))?)),
+        Some(range) => Ok(Outcome::Done(semantic_tokens(alloc, encoding, text, Some(range))?)),
         None => Ok(error_outcome(ErrorCode::InvalidParams)),
     }
 }

@@ -10,18 +10,18 @@ use isle_base::lexer::Fault;
 use isle_cli::failure::Failure;
 use isle_lsp_ranges::lines::{edits_value, range_formatting};
 use isle_lsp_text::edits::edits;
-use isle_lsp_text::positions::{Range, offset_of};
+use isle_lsp_text::positions::{PositionEncoding, Range, offset_of};
 use isle_tidy_core::tidy;
 use serde_json::Value;
 use std::alloc::{AllocError, Global};
 
 /// The edits that format a text, or null if it cannot be formatted. The only error is `Memory`.
-pub fn formatting(alloc: Global, text: &str) -> Result<Value, Failure>
-    ensures ok { IfOk result (λ value. IsFormatting text.now (view value)) }
+pub fn formatting(alloc: Global, encoding: PositionEncoding, text: &str) -> Result<Value, Failure>
+    ensures ok { IfOk result (λ value. IsFormatting encoding text.now (view value)) }
     ensures err { IfErr result (λ failure. failure ≡ Memory) }
 {
     match tidy(alloc, text) {
-        Ok(tidy) => Ok(edits_between(alloc, text, tidy.as_str())?),
+        Ok(tidy) => Ok(edits_between(alloc, encoding, text, tidy.as_str())?),
         Err(Fault::Error(_)) => Ok(Value::Null),
         Err(Fault::Failed | Fault::Memory) => Err(Failure::Memory),
     }
@@ -29,23 +29,28 @@ pub fn formatting(alloc: Global, text: &str) -> Result<Value, Failure>
 
 /// The edits that format the lines of a range of a text, or null if the text cannot be formatted.
 /// The only error is `Memory`.
-pub fn formatting_within(alloc: Global, text: &str, range: Range) -> Result<Value, Failure>
-    ensures ok { IfOk result (λ value. IsFormattingWithin text.now range (view value)) }
+pub fn formatting_within(
+    alloc: Global,
+    encoding: PositionEncoding,
+    text: &str,
+    range: Range,
+) -> Result<Value, Failure>
+    ensures ok { IfOk result (λ value. IsFormattingWithin encoding text.now range (view value)) }
     ensures err { IfErr result (λ failure. failure ≡ Memory) }
 {
     match tidy(alloc, text) {
-        Ok(tidy) => Ok(range_formatting(alloc, text, tidy.as_str(), range)?),
+        Ok(tidy) => Ok(range_formatting(alloc, encoding, text, tidy.as_str(), range)?),
         Err(Fault::Error(_)) => Ok(Value::Null),
         Err(Fault::Failed | Fault::Memory) => Err(Failure::Memory),
     }
 }
 
 /// Returns whether the line at which a range begins is blank.
-pub fn is_blank_at(text: &str, range: Option<Range>) -> bool
-    ensures { result ≡ is_blank_at text.now range }
+pub fn is_blank_at(encoding: PositionEncoding, text: &str, range: Option<Range>) -> bool
+    ensures { result ≡ is_blank_at encoding text.now range }
 {
     match range {
-        Some(range) => is_blank_line(&text.as_bytes()[offset_of(text, range.start)..]),
+        Some(range) => is_blank_line(&text.as_bytes()[offset_of(encoding, text, range.start)..]),
         None => false,
     }
 }
@@ -65,9 +70,14 @@ fn is_blank_line(bytes: &[u8]) -> bool
 }
 
 /// The edits that turn one text into another.
-fn edits_between(alloc: Global, old: &str, new: &str) -> Result<Value, AllocError>
-    ensures { IfOk result (λ value. IsChange old.now new.now (view value)) }
+fn edits_between(
+    alloc: Global,
+    encoding: PositionEncoding,
+    old: &str,
+    new: &str,
+) -> Result<Value, AllocError>
+    ensures { IfOk result (λ value. IsChange encoding old.now new.now (view value)) }
 {
     let edits = edits(alloc, old, new)?;
-    edits_value(alloc, old, new, &edits)
+    edits_value(alloc, encoding, old, new, &edits)
 }

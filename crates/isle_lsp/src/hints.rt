@@ -18,7 +18,7 @@ use isle_lsp_protocol::items::Listing;
 use isle_lsp_protocol::machine::ErrorCode;
 use isle_lsp_protocol::parameters::{range_of, uri_of};
 use isle_lsp_protocol::replies::{Outcome, error_outcome};
-use isle_lsp_text::positions::Range;
+use isle_lsp_text::positions::{PositionEncoding, Range};
 use serde_json::Value;
 use std::alloc::Global;
 
@@ -26,17 +26,18 @@ use std::alloc::Global;
 /// error is `Memory`.
 pub fn hints_outcome<'a>(
     alloc: Global,
+    encoding: PositionEncoding,
     documents: &[Document],
     message: &Value,
     shown: &View,
 ) -> Result<Outcome<'a>, Failure>
     ensures ok { IfOk result (λ outcome. GivesWithin
-        (AreViewHints (map document_of documents.now) (view_of shown.now))
+        (AreViewHints encoding (map document_of documents.now) (view_of shown.now))
         (named_range (view message.now)) (outcome_of outcome)) }
     ensures err { IfErr result (λ failure. failure ≡ Memory) }
 {
     match named_range(message) {
-        Some(range) => hints_within(alloc, documents, range, shown),
+        Some(range) => hints_within(alloc, encoding, documents, range, shown),
         None => Ok(error_outcome(ErrorCode::InvalidParams)),
     }
 }
@@ -54,17 +55,18 @@ fn named_range(message: &Value) -> Option<Range>
 /// The hints in a range of the view's file.
 fn hints_within<'a>(
     alloc: Global,
+    encoding: PositionEncoding,
     documents: &[Document],
     range: Range,
     shown: &View,
 ) -> Result<Outcome<'a>, Failure>
     ensures ok { IfOk result (λ outcome. Gives
-        (AreViewHints (map document_of documents.now) (view_of shown.now) range)
+        (AreViewHints encoding (map document_of documents.now) (view_of shown.now) range)
         (outcome_of outcome)) }
     ensures err { IfErr result (λ failure. failure ≡ Memory) }
 {
     let file = shown.file.as_str();
-    let programs = programs_of(alloc, documents, shown, file)?;
+    let programs = programs_of(alloc, encoding, documents, shown, file)?;
     let items = inlay_hints(alloc, &programs, file, range)?;
     Ok(Outcome::Listed(Listing::Items(items)))
 }

@@ -32,7 +32,13 @@ pub fn name_outcome<'a>(
         (held_of server.now) (view_of shown.now) (outcome_of outcome)) }
     ensures err { IfErr result (λ failure. failure ≡ Memory) }
 {
-    let program = program_of(alloc, &server.documents, shown, uri_of(message).is_some())?;
+    let program = program_of(
+        alloc,
+        server.encoding,
+        &server.documents,
+        shown,
+        uri_of(message).is_some(),
+    )?;
     let question = Question {
         request,
         message,
@@ -91,7 +97,7 @@ fn typed_hover<'a>(
     ensures err { IfErr result (λ failure. failure ≡ Memory) }
 {
     let file = shown.file.as_str();
-    let programs = programs_of(alloc, &server.documents, shown, file)?;
+    let programs = programs_of(alloc, server.encoding, &server.documents, shown, file)?;
     let position = position_of(message);
     let typed = hover_with_type(alloc, &programs, file, position, hover)?;
     Ok(Outcome::Done(typed))

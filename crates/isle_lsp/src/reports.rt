@@ -24,6 +24,7 @@ use isle_lsp_files::texts::{is_together, programs_of};
 use isle_lsp_protocol::machine::Notification;
 use isle_lsp_protocol::parameters::uri_of;
 use isle_lsp_protocol::watching::watch_request;
+use isle_lsp_text::positions::PositionEncoding;
 use serde_json::Value;
 use std::alloc::Global;
 
@@ -41,16 +42,18 @@ pub fn handle(
         (held_of server.now) (view_of shown.now) (map string_bytes sent.items)) }
     ensures err { IfErr result (λ failure. failure ≡ Memory) }
 {
-    let documents = &server.documents;
+    let (encoding, documents) = (server.encoding, &server.documents);
     match notification {
         Notification::Initialized => ask_to_watch(alloc, server.watches_files),
         Notification::DidOpen | Notification::DidChange => {
-            publish_named(alloc, checks, documents, false, message, shown)
+            publish_named(alloc, encoding, checks, documents, false, message, shown)
         }
-        Notification::DidClose => publish_named(alloc, checks, documents, true, message, shown),
+        Notification::DidClose => publish_named(
+            alloc, encoding, checks, documents, true, message, shown,
+        ),
         Notification::DidChangeWorkspaceFolders | Notification::DidChangeWatchedFiles => {
             checks.renew(alloc);
-            publish_others(alloc, checks, documents, true, None, shown)
+            publish_others(alloc, encoding, checks, documents, true, None, shown)
         }
         Notification::Exit | Notification::Other => Ok(Vec::new(alloc)),
     }
@@ -72,20 +75,21 @@ fn ask_to_watch(alloc: Global, watches_files: bool) -> Result<Vec<String>, Failu
 /// all of them or those that are in a program with its file.
 fn publish_named(
     alloc: Global,
+    encoding: PositionEncoding,
     checks: &mut Checks,
     documents: &[Document],
     all: bool,
     message: &Option<Value>,
     shown: &View,
 ) -> Result<Vec<String>, Failure>
-    ensures ok { IfOk result (λ sent. PublishesNamed all
+    ensures ok { IfOk result (λ sent. PublishesNamed encoding all
         (option_and_then parameters_of.uri_of (option_map view message.now))
         (map document_of documents.now) (view_of shown.now) (map string_bytes sent.items)) }
     ensures err { IfErr result (λ failure. failure ≡ Memory) }
 {
     match message {
         Some(message) => match uri_of(message) {
-            Some(uri) => publish_all(alloc, checks, documents, all, uri, shown),
+            Some(uri) => publish_all(alloc, encoding, checks, documents, all, uri, shown),
             None => Ok(Vec::new(alloc)),
         },
         None => Ok(Vec::new(alloc)),
@@ -96,19 +100,28 @@ fn publish_named(
 /// that are in a program with its file.
 fn publish_all(
     alloc: Global,
+    encoding: PositionEncoding,
     checks: &mut Checks,
     documents: &[Document],
     all: bool,
     uri: &str,
     shown: &View,
 ) -> Result<Vec<String>, Failure>
-    ensures ok { IfOk result (λ sent. Publishes all uri.now (map document_of documents.now)
+    ensures ok { IfOk result (λ sent. Publishes encoding all uri.now (map document_of documents.now)
         (view_of shown.now) (map string_bytes sent.items)) }
     ensures err { IfErr result (λ failure. failure ≡ Memory) }
 {
     checks.renew(alloc);
-    let named = publish(alloc, checks, documents, uri, shown.file.as_str(), shown)?;
-    let mut others = publish_others(alloc, checks, documents, all, Some(uri), shown)?;
+    let named = publish(
+        alloc,
+        encoding,
+        checks,
+        documents,
+        uri,
+        shown.file.as_str(),
+        shown,
+    )?;
+    let mut others = publish_others(alloc, encoding, checks, documents, all, Some(uri), shown)?;
     let mut sent = Vec::new(alloc);
     sent.push(named)?;
     sent.append(&mut others)?;
@@ -119,13 +132,14 @@ fn publish_all(
 /// them or those that are in a program with the view's file.
 fn publish_others(
     alloc: Global,
+    encoding: PositionEncoding,
     checks: &mut Checks,
     documents: &[Document],
     all: bool,
     named: Option<&str>,
     shown: &View,
 ) -> Result<Vec<String>, Failure>
-    ensures ok { IfOk result (λ sent. AreReports (map document_of documents.now)
+    ensures ok { IfOk result (λ sent. AreReports encoding (map document_of documents.now)
         (view_of shown.now) (serving.others all (option_map (λ uri. uri.now) named.entry)
         (view_of shown.now) (map document_of documents.now)) (map string_bytes sent.items)) }
     ensures err { IfErr result (λ failure. failure ≡ Memory) }
@@ -134,7 +148,7 @@ fn publish_others(
     for document in documents {
         if is_other(document, all, named, shown) {
             let (uri, file) = (document.uri.as_str(), document.file.as_str());
-            let text = publish(alloc, checks, documents, uri, file, shown)?;
+            let text = publish(alloc, encoding, checks, documents, uri, file, shown)?;
             sent.push(text)?;
         }
     }
@@ -164,20 +178,21 @@ fn is_named(document: &Document, named: Option<&str>) -> bool
 /// The text of the notification with the diagnostics of a document, which is this file.
 fn publish(
     alloc: Global,
+    encoding: PositionEncoding,
     checks: &mut Checks,
     documents: &[Document],
     uri: &str,
     file: &str,
     shown: &View,
 ) -> Result<String, Failure>
-    ensures ok { IfOk result (λ text. IsReport (map document_of documents.now)
+    ensures ok { IfOk result (λ text. IsReport encoding (map document_of documents.now)
         (view_of shown.now) uri.now file.now (string_bytes text)) }
     ensures err { IfErr result (λ failure. failure ≡ Memory) }
 {
-    let programs = programs_of(alloc, documents, shown, file)?;
+    let programs = programs_of(alloc, encoding, documents, shown, file)?;
     let document = document_at(documents, uri);
     let (version, text) = (version_of(document), text_of(document));
-    publish_diagnostics(alloc, checks, uri, version, &programs, file, text)
+    publish_diagnostics(alloc, encoding, checks, uri, version, &programs, file, text)
 }
 
 /// The version of a document, if it is open and the client gave one.

@@ -17,7 +17,7 @@ ghost use Rattle.isle_lsp.specs.Serving as serving;
 ghost use Rattle.isle_lsp.specs.Serving.{IsReply, IsResult, IsResultOf, IsShallow, Sends};
 ghost use Rattle.isle_lsp.specs.Serving.{document_in, documents_after, documents_noted, held_of};
 ghost use Rattle.isle_lsp.specs.Serving.{documents_after_notification, folders_after, takes_after};
-ghost use Rattle.isle_lsp.specs.Serving.{IsReplyUnless, watches_after};
+ghost use Rattle.isle_lsp.specs.Serving.{IsReplyUnless, encoding_after, watches_after};
 
 use crate::actions::actions_outcome;
 use crate::alone::outcome_alone;
@@ -32,10 +32,11 @@ use isle_lsp_files::documents::{Document, close, document_at, open};
 use isle_lsp_protocol::capabilities::initialize_result;
 use isle_lsp_protocol::machine::{Action, ErrorCode, Notification, Request, State};
 use isle_lsp_protocol::parameters::{
-    takes_document_changes, text_after, uri_of, version_of, watches_files,
+    encoding_of, takes_document_changes, text_after, uri_of, version_of, watches_files,
 };
 use isle_lsp_protocol::replies::{Outcome, error_outcome, reason_of, reply_id};
 use isle_lsp_protocol::{parameters, replies};
+use isle_lsp_text::positions::PositionEncoding;
 use serde_json::Value;
 use std::alloc::{AllocError, Global};
 
@@ -44,6 +45,8 @@ use std::alloc::{AllocError, Global};
 pub struct Server {
     /// The state of the session.
     pub state: State,
+    /// How positions are counted: the client and the server agree on it at the start.
+    pub encoding: PositionEncoding,
     /// The open documents.
     pub documents: Vec<Document>,
     /// The URIs of the editor's folders.
@@ -61,6 +64,7 @@ impl Server {
     {
         Server {
             state: State::Fresh,
+            encoding: PositionEncoding::Utf16,
             documents: Vec::new(alloc),
             folders: Vec::new(alloc),
             takes_document_changes: false,
@@ -100,11 +104,13 @@ pub fn note(
 ) -> Result<(), AllocError>
     ensures state { server.new.state ≡ server.old.state }
     ensures documents { OnOk result (map document_of server.new.documents.items
-        ≡ documents_after action (option_map view message.now) (view_of opened.now)
-        (map document_of server.old.documents.items)) }
+        ≡ documents_after server.old.encoding action (option_map view message.now)
+        (view_of opened.now) (map document_of server.old.documents.items)) }
     ensures folders { OnOk result (map string_bytes server.new.folders.items
         ≡ folders_after action (option_map view message.now)
         (map string_bytes server.old.folders.items)) }
+    ensures encoding { OnOk result (server.new.encoding
+        ≡ encoding_after action (option_map view message.now) server.old.encoding) }
     ensures takes { OnOk result (server.new.takes_document_changes
         ≡ takes_after action (option_map view message.now) server.old.takes_document_changes) }
     ensures watches { OnOk result (server.new.watches_files
@@ -177,6 +183,9 @@ fn initialize(alloc: Global, server: &mut Server, message: &Option<Value>) -> Re
     ensures folders { OnOk result (map string_bytes server.new.folders.items
         ≡ folders_after (Action.Answer Request.Initialize) (option_map view message.now)
         (map string_bytes server.old.folders.items)) }
+    ensures encoding { OnOk result (server.new.encoding
+        ≡ encoding_after (Action.Answer Request.Initialize) (option_map view message.now)
+        server.old.encoding) }
     ensures takes { OnOk result (server.new.takes_document_changes
         ≡ takes_after (Action.Answer Request.Initialize) (option_map view message.now)
         server.old.takes_document_changes) }
@@ -186,6 +195,7 @@ fn initialize(alloc: Global, server: &mut Server, message: &Option<Value>) -> Re
 {
     if let Some(message) = message {
         server.folders = parameters::folders_of(alloc, message)?;
+        server.encoding = encoding_of(message);
         server.takes_document_changes = takes_document_changes(message);
         server.watches_files = watches_files(message);
     }
@@ -227,14 +237,16 @@ fn note_notification(
     opened: &View,
 ) -> Result<(), AllocError>
     ensures state { server.new.state ≡ server.old.state }
+    ensures encoding { server.new.encoding ≡ server.old.encoding }
     ensures takes { server.new.takes_document_changes ≡ server.old.takes_document_changes }
     ensures watches { server.new.watches_files ≡ server.old.watches_files }
     ensures folders { OnOk result (map string_bytes server.new.folders.items
         ≡ folders_after (Action.Handle notification) (option_map view message.now)
         (map string_bytes server.old.folders.items)) }
     ensures documents { OnOk result (map document_of server.new.documents.items
-        ≡ documents_after_notification notification (option_map view message.now)
-        (view_of opened.now) (map document_of server.old.documents.items)) }
+        ≡ documents_after_notification server.old.encoding notification
+        (option_map view message.now) (view_of opened.now)
+        (map document_of server.old.documents.items)) }
 {
     match message {
         Some(message) => {
@@ -243,8 +255,17 @@ fn note_notification(
             }
             match uri_of(message) {
                 Some(uri) => {
+                    let encoding = server.encoding;
                     let documents = &mut server.documents;
-                    note_for(alloc, documents, notification, uri, message, opened)
+                    note_for(
+                        alloc,
+                        encoding,
+                        documents,
+                        notification,
+                        uri,
+                        message,
+                        opened,
+                    )
                 }
                 None => Ok(()),
             }
@@ -256,6 +277,7 @@ fn note_notification(
 /// Notes a notification about a document.
 fn note_for(
     alloc: Global,
+    encoding: PositionEncoding,
     documents: &mut Vec<Document>,
     notification: Notification,
     uri: &str,
@@ -263,12 +285,12 @@ fn note_for(
     opened: &View,
 ) -> Result<(), AllocError>
     ensures { OnOk result (map document_of documents.new.items
-        ≡ documents_noted notification uri.now (view message.now) (view_of opened.now)
+        ≡ documents_noted encoding notification uri.now (view message.now) (view_of opened.now)
         (map document_of documents.old.items)) }
 {
     match notification {
         Notification::DidOpen => did_open(alloc, documents, uri, message, opened),
-        Notification::DidChange => did_change(alloc, documents, uri, message),
+        Notification::DidChange => did_change(alloc, encoding, documents, uri, message),
         Notification::DidClose => {
             close(documents, uri);
             Ok(())
@@ -306,18 +328,22 @@ fn did_open(
 /// Changes the document that a message names.
 fn did_change(
     alloc: Global,
+    encoding: PositionEncoding,
     documents: &mut Vec<Document>,
     uri: &str,
     message: &Value,
 ) -> Result<(), AllocError>
-    ensures { OnOk result (map document_of documents.new.items ≡ serving.did_change uri.now
-        (wanted.document_at uri.now (map document_of documents.old.items))
+    ensures { OnOk result (map document_of documents.new.items ≡ serving.did_change encoding
+        uri.now (wanted.document_at uri.now (map document_of documents.old.items))
         (view message.now) (map document_of documents.old.items)) }
 {
     let (file, after) = match document_at(documents, uri) {
         Some(document) => {
             let file = String::from_str(alloc, document.file.as_str())?;
-            (file, text_after(alloc, message, document.text.as_str())?)
+            (
+                file,
+                text_after(alloc, encoding, message, document.text.as_str())?,
+            )
         }
         None => return Ok(()),
     };
@@ -420,14 +446,16 @@ fn outcome_in<'a>(
     ensures err { IfErr result (λ failure. failure ≡ Memory) }
 {
     match request {
-        Request::Initialize => Ok(Outcome::Done(initialize_result(alloc)?)),
+        Request::Initialize => Ok(Outcome::Done(initialize_result(alloc, server.encoding)?)),
         Request::Shutdown => Ok(Outcome::Done(Value::Null)),
         Request::Document(request) => {
             let document = document_in(&server.documents, message);
-            outcome_alone(alloc, request, message, document)
+            outcome_alone(alloc, server.encoding, request, message, document)
         }
         Request::Hover => hover_outcome(alloc, server, gathered, message, shown),
-        Request::InlayHint => hints_outcome(alloc, &server.documents, message, shown),
+        Request::InlayHint => {
+            hints_outcome(alloc, server.encoding, &server.documents, message, shown)
+        },
         Request::CodeAction => actions_outcome(alloc, server, message, shown),
         Request::Unknown => Ok(error_outcome(ErrorCode::MethodNotFound)),
         _ => name_outcome(alloc, server, gathered, request, message, shown),

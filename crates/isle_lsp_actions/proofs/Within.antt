@@ -14,6 +14,7 @@ use Rattle.isle_lsp_text.specs.Lists.{outer_list}
 use Rattle.isle_lsp_text.specs.declared.lists.ListSpan.{ListSpan}
 use Rattle.isle_lsp_text.specs.declared.positions.Position.{Position}
 use Rattle.isle_lsp_text.proofs.Walks.{whole_law}
+use Rattle.isle_lsp_text.specs.declared.positions.PositionEncoding.{PositionEncoding}
 
 abbrev AreWithin : List ℕ → List Action → Type 0
 AreWithin text actions = AllByRecursion (λ a. (a.from ≡ a.to) × (a.to ≤ length text)) actions
@@ -31,20 +32,20 @@ abbrev BeginsWithin : List ℕ → Option Told → Type 0
 BeginsWithin text None = Unit {0}
 BeginsWithin text (Some t) = t.from ≤ length text
 
-told_with_within : (text : List ℕ) (lint : Option Lint) (start end : Option Position) → BeginsWithin text (told_with text lint start end)
-told_with_within text None start end = tt
-told_with_within text (Some lint) None end = tt
-told_with_within text (Some lint) (Some start) None = tt
-told_with_within text (Some lint) (Some start) (Some end) = (whole_law text start.line start.unit).0
+told_with_within : (enc : PositionEncoding) (text : List ℕ) (lint : Option Lint) (start end : Option Position) → BeginsWithin text (told_with enc text lint start end)
+told_with_within enc text None start end = tt
+told_with_within enc text (Some lint) None end = tt
+told_with_within enc text (Some lint) (Some start) None = tt
+told_with_within enc text (Some lint) (Some start) (Some end) = (whole_law enc text start.line start.unit).0
 
 told_if_within : (text : List ℕ) (b : Bool) (o : Option Told) → BeginsWithin text o → BeginsWithin text (if b then o else None)
 told_if_within text true o h = h
 told_if_within text false o h = tt
 
-told_within : (text : List ℕ) (d : Data) → BeginsWithin text (told_in text d)
-told_within text d =
+told_within : (enc : PositionEncoding) (text : List ℕ) (d : Data) → BeginsWithin text (told_in enc text d)
+told_within enc text d =
     told_if_within text (is_text (codes "isle") (text_in (codes "source") d)) _
-    (told_with_within text (option_and_then lint_named (text_in (codes "code") d)) (position_at (codes "/range/start") d) (position_at (codes "/range/end") d))
+    (told_with_within enc text (option_and_then lint_named (text_in (codes "code") d)) (position_at (codes "/range/start") d) (position_at (codes "/range/end") d))
 
 -- a line begins within the text
 abbrev IsWithin : List ℕ → Option ℕ → Type 0
@@ -81,9 +82,9 @@ for_within : (text : List ℕ) (names : List Name) (lists : List ListSpan) (o : 
 for_within text names lists None h = tt
 for_within text names lists (Some t) h = in_within text names t (outer_list t.from lists) h
 
-pub within : (text : List ℕ) (names : List Name) (lists : List ListSpan) (ds : Items)
-    → AllByRecursion (λ a. (a.from ≡ a.to) × (a.to ≤ length text)) (all_actions text names lists ds)
-within text names lists no_items = tt
-within text names lists (item d ds) =
-    append_within text (actions_for text names lists (told_in text d)) (all_actions text names lists ds)
-    (for_within text names lists (told_in text d) (told_within text d)) (within text names lists ds)
+pub within : (enc : PositionEncoding) (text : List ℕ) (names : List Name) (lists : List ListSpan) (ds : Items)
+    → AllByRecursion (λ a. (a.from ≡ a.to) × (a.to ≤ length text)) (all_actions enc text names lists ds)
+within enc text names lists no_items = tt
+within enc text names lists (item d ds) =
+    append_within text (actions_for text names lists (told_in enc text d)) (all_actions enc text names lists ds)
+    (for_within text names lists (told_in enc text d) (told_within enc text d)) (within enc text names lists ds)

@@ -15,6 +15,7 @@ use Rattle.isle_lsp_actions.specs.declared.actions.ActionKind.TheVariants.{Quick
 use Rattle.isle_lsp_actions.specs.declared.told.Told.{Told}
 use Rattle.isle_lsp_text.specs.Lists.{outer_list}
 use Rattle.isle_lsp_text.specs.declared.lists.ListSpan.{ListSpan}
+use Rattle.isle_lsp_text.specs.declared.positions.PositionEncoding.{PositionEncoding}
 
 -- an action: its title, its kind, and the text that it puts in place of what is between two offsets
 pub record Action : Type 0 where
@@ -87,6 +88,6 @@ actions_for text names lists None = []
 actions_for text names lists (Some t) = actions_in text names t (outer_list t.from lists)
 
 -- the actions for each of these diagnostics
-abbrev pub all_actions : List ℕ → List Name → List ListSpan → Items → List Action
-all_actions text names lists no_items = []
-all_actions text names lists (item d ds) = actions_for text names lists (told_in text d) ++ all_actions text names lists ds
+abbrev pub all_actions : PositionEncoding → List ℕ → List Name → List ListSpan → Items → List Action
+all_actions enc text names lists no_items = []
+all_actions enc text names lists (item d ds) = actions_for text names lists (told_in enc text d) ++ all_actions enc text names lists ds

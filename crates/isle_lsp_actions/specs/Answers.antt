@@ -12,6 +12,7 @@ use Rattle.isle_lsp_protocol.specs.Results.{document_edits, plain_edit, text_edi
 use Rattle.isle_lsp_text.specs.Lists.{AreLists}
 use Rattle.isle_lsp_text.specs.Ranges.{range_between}
 use Rattle.isle_lsp_text.specs.declared.lists.ListSpan.{ListSpan}
+use Rattle.isle_lsp_text.specs.declared.positions.PositionEncoding.{PositionEncoding}
 
 -- the edits in one document: with its version, if the client takes these
 abbrev pub edit_data : (takes_document_changes : Bool) → (uri : List ℕ) → (version : Option ℤ) → (edits : Data) → Data
@@ -22,44 +23,44 @@ abbrev pub kind_name : ActionKind → List ℕ
 kind_name QuickFix = codes "quickfix"
 kind_name Inlining = codes "refactor.inline"
 
-abbrev pub replacement_data : List ℕ → Action → Data
-replacement_data text a = array (item (text_edit (range_between text a.from a.to) a.new_text) no_items)
+abbrev pub replacement_data : PositionEncoding → List ℕ → Action → Data
+replacement_data enc text a = array (item (text_edit (range_between enc text a.from a.to) a.new_text) no_items)
 
-abbrev pub action_data : (takes_document_changes : Bool) → (uri : List ℕ) → (version : Option ℤ) → (text : List ℕ) → Action → Data
-action_data takes uri version text a =
-    object (member (codes "edit") (edit_data takes uri version (replacement_data text a)) (member (codes "kind") (string (kind_name a.kind))
+abbrev pub action_data : PositionEncoding → (takes_document_changes : Bool) → (uri : List ℕ) → (version : Option ℤ) → (text : List ℕ) → Action → Data
+action_data enc takes uri version text a =
+    object (member (codes "edit") (edit_data takes uri version (replacement_data enc text a)) (member (codes "kind") (string (kind_name a.kind))
     (member (codes "title") (string a.title) no_members)))
 
-abbrev pub actions_data : (takes_document_changes : Bool) → (uri : List ℕ) → (version : Option ℤ) → (text : List ℕ) → List Action → Data
-actions_data takes uri version text actions = array (items_of (map (action_data takes uri version text) actions))
+abbrev pub actions_data : PositionEncoding → (takes_document_changes : Bool) → (uri : List ℕ) → (version : Option ℤ) → (text : List ℕ) → List Action → Data
+actions_data enc takes uri version text actions = array (items_of (map (action_data enc takes uri version text) actions))
 
 -- ---- which actions
 
 -- These are the actions for the diagnostics of a message, by the names and the lists of the text.
-pub record AreFixes (text : List ℕ) (message : Data) (fixes : List Action) : Type 0 where
+pub record AreFixes (enc : PositionEncoding) (text : List ℕ) (message : Data) (fixes : List Action) : Type 0 where
   pub names : List Name
   pub named : AreNames text names
   pub lists : List ListSpan
   pub listed : AreLists text lists
-  pub are : fixes ≡ all_actions text names lists (diagnostics_in message)
+  pub are : fixes ≡ all_actions enc text names lists (diagnostics_in message)
 
-abbrev pub AreFixesIf : (wanted : Bool) → (text : List ℕ) → (message : Data) → (fixes : List Action) → Type 0
-AreFixesIf false text message fixes = fixes ≡ []
-AreFixesIf true text message fixes = AreFixes text message fixes
+abbrev pub AreFixesIf : PositionEncoding → (wanted : Bool) → (text : List ℕ) → (message : Data) → (fixes : List Action) → Type 0
+AreFixesIf enc false text message fixes = fixes ≡ []
+AreFixesIf enc true text message fixes = AreFixes enc text message fixes
 
 abbrev pub IsExpandingAt : (text : List ℕ) → (programs : List (List (List ℕ))) → (place : Option ℕ) → Option Action → Type 0
 IsExpandingAt text programs None expansion = expansion ≡ None
 IsExpandingAt text programs (Some place) expansion = IsExpanding text programs place expansion
 
-abbrev pub IsExpandingIf : (wanted : Bool) → (text : List ℕ) → (programs : List (List (List ℕ))) → (message : Data) → Option Action → Type 0
-IsExpandingIf false text programs message expansion = expansion ≡ None
-IsExpandingIf true text programs message expansion = IsExpandingAt text programs (asked_at text message) expansion
+abbrev pub IsExpandingIf : PositionEncoding → (wanted : Bool) → (text : List ℕ) → (programs : List (List (List ℕ))) → (message : Data) → Option Action → Type 0
+IsExpandingIf enc false text programs message expansion = expansion ≡ None
+IsExpandingIf enc true text programs message expansion = IsExpandingAt text programs (asked_at enc text message) expansion
 
 -- The data are the answer to a request about a document that these programs have: the actions for its diagnostics, and the one that expands the
 -- use at its place, if it wants these kinds.
-pub record AreActions (takes_document_changes : Bool) (uri : List ℕ) (version : Option ℤ) (text : List ℕ) (programs : List (List (List ℕ))) (message actions : Data) : Type 0 where
+pub record AreActions (enc : PositionEncoding) (takes_document_changes : Bool) (uri : List ℕ) (version : Option ℤ) (text : List ℕ) (programs : List (List (List ℕ))) (message actions : Data) : Type 0 where
   pub fixes : List Action
-  pub fixing : AreFixesIf (wants_fixes message) text message fixes
+  pub fixing : AreFixesIf enc (wants_fixes message) text message fixes
   pub expansion : Option Action
-  pub expanding : IsExpandingIf (wants_inlining message) text programs message expansion
-  pub are : actions ≡ actions_data takes_document_changes uri version text (fixes ++ option_to_list expansion)
+  pub expanding : IsExpandingIf enc (wants_inlining message) text programs message expansion
+  pub are : actions ≡ actions_data enc takes_document_changes uri version text (fixes ++ option_to_list expansion)

@@ -10,6 +10,7 @@ use Rattle.isle_lsp_actions.specs.declared.told.Told.{Told}
 use Rattle.isle_lsp_protocol.specs.Parameters.{position_in}
 use Rattle.isle_lsp_text.specs.Positions.{offset_at}
 use Rattle.isle_lsp_text.specs.declared.positions.Position.{Position}
+use Rattle.isle_lsp_text.specs.declared.positions.PositionEncoding.{PositionEncoding}
 
 -- whether there is a text, and it is this one
 abbrev pub is_text : List ℕ → Option (List ℕ) → Bool
@@ -26,17 +27,17 @@ lint_named text = find (λ lint. bytes_eq (name lint) text) all_lints
 abbrev pub position_at : (path : List ℕ) → Data → Option Position
 position_at path d = option_and_then position_in (pointer path d)
 
-abbrev pub told_with : List ℕ → (lint : Option Lint) → (start end : Option Position) → Option Told
-told_with text None start end = None
-told_with text (Some lint) None end = None
-told_with text (Some lint) (Some start) None = None
-told_with text (Some lint) (Some start) (Some end) = Some record { lint = lint; from = offset_at start text; to = offset_at end text }
+abbrev pub told_with : PositionEncoding → List ℕ → (lint : Option Lint) → (start end : Option Position) → Option Told
+told_with enc text None start end = None
+told_with enc text (Some lint) None end = None
+told_with enc text (Some lint) (Some start) None = None
+told_with enc text (Some lint) (Some start) (Some end) = Some record { lint = lint; from = offset_at enc start text; to = offset_at enc end text }
 
 -- what a diagnostic of a lint tells about a text: the lint, and where its range begins and ends
-abbrev pub told_in : List ℕ → Data → Option Told
-told_in text d =
+abbrev pub told_in : PositionEncoding → List ℕ → Data → Option Told
+told_in enc text d =
     if is_text (codes "isle") (text_in (codes "source") d)
-    then told_with text (option_and_then lint_named (text_in (codes "code") d)) (position_at (codes "/range/start") d) (position_at (codes "/range/end") d)
+    then told_with enc text (option_and_then lint_named (text_in (codes "code") d)) (position_at (codes "/range/start") d) (position_at (codes "/range/end") d)
     else None
 
 abbrev pub items_or_none : Option Items → Items
@@ -83,10 +84,10 @@ wants_inlining_of (Some kinds) = has_kind_of_inlining kinds
 abbrev pub wants_inlining : Data → Bool
 wants_inlining d = wants_inlining_of (kinds_in d)
 
-abbrev pub offset_of_position : List ℕ → Option Position → Option ℕ
-offset_of_position text None = None
-offset_of_position text (Some p) = Some (offset_at p text)
+abbrev pub offset_of_position : PositionEncoding → List ℕ → Option Position → Option ℕ
+offset_of_position enc text None = None
+offset_of_position enc text (Some p) = Some (offset_at enc p text)
 
 -- the offset at which the range of a request begins
-abbrev pub asked_at : List ℕ → Data → Option ℕ
-asked_at text d = offset_of_position text (position_at (codes "/params/range/start") d)
+abbrev pub asked_at : PositionEncoding → List ℕ → Data → Option ℕ
+asked_at enc text d = offset_of_position enc text (position_at (codes "/params/range/start") d)

@@ -13,6 +13,7 @@ use crate::names::{Name, count_in, name_at};
 use crate::told::{Told, told_in};
 use isle_lint_core::Lint;
 use isle_lsp_text::lists::{ListSpan, outer_list};
+use isle_lsp_text::positions::PositionEncoding;
 use serde_json::Value;
 use std::alloc::{AllocError, Global};
 
@@ -43,18 +44,19 @@ pub struct Action {
 /// The actions for each of these diagnostics, given the names and the lists of the text.
 pub fn all_actions(
     alloc: Global,
+    encoding: PositionEncoding,
     text: &str,
     names: &[Name],
     lists: &[ListSpan],
     diagnostics: &[Value],
 ) -> Result<Vec<Action>, AllocError>
     ensures { IfOk result (λ actions. map action_of actions.items
-        ≡ wanted.all_actions text.now (map name_of names.now) lists.now
+        ≡ wanted.all_actions encoding text.now (map name_of names.now) lists.now
         (items_view diagnostics.now)) }
 {
     let mut actions = Vec::new(alloc);
     for diagnostic in diagnostics {
-        if let Some(told) = told_in(text, diagnostic) {
+        if let Some(told) = told_in(encoding, text, diagnostic) {
             add_actions(alloc, text, names, lists, told, &mut actions)?;
         }
     }

@@ -9,7 +9,7 @@ ghost use Rattle.isle_lsp_protocol.specs.Results.{document_identifier, version_d
 use crate::Document;
 use crate::actions::{Action, ActionKind};
 use isle_lsp_protocol::results::text_edit;
-use isle_lsp_text::positions::START;
+use isle_lsp_text::positions::{PositionEncoding, START};
 use isle_lsp_text::ranges::range_between;
 use serde_json::{Map, Number, Value, json, put};
 use std::alloc::{AllocError, Global};
@@ -17,34 +17,36 @@ use std::alloc::{AllocError, Global};
 /// These actions in a document, as JSON.
 pub fn actions_value(
     alloc: Global,
+    encoding: PositionEncoding,
     document: Document,
     actions: &[Action],
     takes_document_changes: bool,
 ) -> Result<Value, AllocError>
     ensures { IfOk result (λ value. view value
-        ≡ wanted.actions_data takes_document_changes document.entry.uri.now document.entry.version
-        document.entry.text.now (map action_of actions.now)) }
+        ≡ wanted.actions_data encoding takes_document_changes document.entry.uri.now
+        document.entry.version document.entry.text.now (map action_of actions.now)) }
 {
     let mut values = Vec::new(alloc);
     for action in actions {
-        values.push(action_value(alloc, document, action, takes_document_changes)?)?;
+        values.push(action_value(alloc, encoding, document, action, takes_document_changes)?)?;
     }
     Ok(Value::Array(values))
 }
 
 fn action_value(
     alloc: Global,
+    encoding: PositionEncoding,
     document: Document,
     action: &Action,
     takes_document_changes: bool,
 ) -> Result<Value, AllocError>
     ensures { IfOk result (λ value. view value
-        ≡ wanted.action_data takes_document_changes document.entry.uri.now document.entry.version
-        document.entry.text.now (action_of action.now)) }
+        ≡ wanted.action_data encoding takes_document_changes document.entry.uri.now
+        document.entry.version document.entry.text.now (action_of action.now)) }
 {
     let title = action.title.as_str();
     let kind = kind_name(action.kind);
-    let edits = replacement_value(alloc, document.text, action)?;
+    let edits = replacement_value(alloc, encoding, document.text, action)?;
     let edit = edit_value(alloc, document, edits, takes_document_changes)?;
     json!(in alloc; {"title": title, "kind": kind, "edit": edit})
 }
@@ -61,12 +63,17 @@ fn kind_name(kind: ActionKind) -> &'static str
 
 /// The edit of an action, in an array of its own.
 #[tactic(auto, using(isle_lsp_text::proofs::Places::start_place))]
-fn replacement_value(alloc: Global, text: &str, action: &Action) -> Result<Value, AllocError>
+fn replacement_value(
+    alloc: Global,
+    encoding: PositionEncoding,
+    text: &str,
+    action: &Action,
+) -> Result<Value, AllocError>
     ensures { IfOk result
-        (λ value. view value ≡ wanted.replacement_data text.now (action_of action.now)) }
+        (λ value. view value ≡ wanted.replacement_data encoding text.now (action_of action.now)) }
 {
     let mut near = START;
-    let range = range_between(text, &mut near, action.from, action.to);
+    let range = range_between(encoding, text, &mut near, action.from, action.to);
     let edit = text_edit(alloc, range, action.new_text.as_str())?;
     json!(in alloc; [edit])
 }

@@ -30,6 +30,7 @@ use actions::{Action, all_actions};
 use answers::actions_value;
 use expansions::expanding;
 use isle_lsp_text::lists::lists;
+use isle_lsp_text::positions::PositionEncoding;
 use names::names_in;
 use serde_json::Value;
 use std::alloc::{AllocError, Global};
@@ -64,26 +65,32 @@ pub struct Document<'a> {
 /// takes document changes.
 pub fn code_actions(
     alloc: Global,
+    encoding: PositionEncoding,
     document: Document,
     programs: &[Vec<&str>],
     message: &Value,
     takes_document_changes: bool,
 ) -> Result<Value, AllocError>
     ensures actions { let texts = map (λ p. map (λ t. t.now) p.items) programs.now in
-        IfOk result (λ value. AreActions takes_document_changes document.entry.uri.now
+        IfOk result (λ value. AreActions encoding takes_document_changes document.entry.uri.now
         document.entry.version document.entry.text.now texts (view message.now) (view value)) }
     ensures shallow { IfOk result (λ value. depth (view value) ≤ 120) }
 {
-    let mut actions = fixes(alloc, document.text, message)?;
-    if let Some(action) = expansion(alloc, document.text, programs, message)? {
+    let mut actions = fixes(alloc, encoding, document.text, message)?;
+    if let Some(action) = expansion(alloc, encoding, document.text, programs, message)? {
         actions.push(action)?;
     }
-    actions_value(alloc, document, &actions, takes_document_changes)
+    actions_value(alloc, encoding, document, &actions, takes_document_changes)
 }
 
 /// The actions for the diagnostics in a message, if it wants quick fixes.
-fn fixes(alloc: Global, text: &str, message: &Value) -> Result<Vec<Action>, AllocError>
-    ensures { IfOk result (λ actions. AreFixesIf (wants_fixes (view message.now)) text.now
+fn fixes(
+    alloc: Global,
+    encoding: PositionEncoding,
+    text: &str,
+    message: &Value,
+) -> Result<Vec<Action>, AllocError>
+    ensures { IfOk result (λ actions. AreFixesIf encoding (wants_fixes (view message.now)) text.now
         (view message.now) (map action_of actions.items)) }
 {
     if !wants_fixes(message) {
@@ -91,24 +98,33 @@ fn fixes(alloc: Global, text: &str, message: &Value) -> Result<Vec<Action>, Allo
     }
     let names = names_in(alloc, text)?;
     let lists = lists(alloc, text)?;
-    all_actions(alloc, text, &names, &lists, diagnostics_in(message))
+    all_actions(
+        alloc,
+        encoding,
+        text,
+        &names,
+        &lists,
+        diagnostics_in(message),
+    )
 }
 
 /// The action that expands the use at the place of a message, if it wants such actions.
 fn expansion(
     alloc: Global,
+    encoding: PositionEncoding,
     text: &str,
     programs: &[Vec<&str>],
     message: &Value,
 ) -> Result<Option<Action>, AllocError>
     ensures { let texts = map (λ p. map (λ t. t.now) p.items) programs.now in
-        IfOk result (λ action. IsExpandingIf (wants_inlining (view message.now)) text.now texts
+        IfOk result (λ action. IsExpandingIf encoding
+        (wants_inlining (view message.now)) text.now texts
         (view message.now) (option_map action_of action)) }
 {
     if !wants_inlining(message) {
         return Ok(None);
     }
-    match asked_at(text, message) {
+    match asked_at(encoding, text, message) {
         Some(place) => expanding(alloc, text, programs, place),
         None => Ok(None),
     }

@@ -7,7 +7,7 @@ ghost use Rattle.isle_lsp_actions.specs.Told as wanted;
 
 use isle_lint_core::Lint;
 use isle_lsp_protocol::parameters::position_in;
-use isle_lsp_text::positions::{Position, offset_of};
+use isle_lsp_text::positions::{Position, PositionEncoding, offset_of};
 use serde_json::Value;
 
 /// The source of the diagnostics of lints.
@@ -25,8 +25,8 @@ pub struct Told {
 }
 
 /// What a diagnostic tells about a text, or `None` if it is not one of a lint.
-pub fn told_in(text: &str, diagnostic: &Value) -> Option<Told>
-    ensures { result ≡ wanted.told_in text.now (view diagnostic.now) }
+pub fn told_in(encoding: PositionEncoding, text: &str, diagnostic: &Value) -> Option<Told>
+    ensures { result ≡ wanted.told_in encoding text.now (view diagnostic.now) }
 {
     if !is_text(SOURCE, text_in(diagnostic, "source")) {
         return None;
@@ -34,8 +34,8 @@ pub fn told_in(text: &str, diagnostic: &Value) -> Option<Told>
     let lint = lint_in(diagnostic)?;
     let start = position_at(diagnostic, "/range/start")?;
     let end = position_at(diagnostic, "/range/end")?;
-    let from = offset_of(text, start);
-    let to = offset_of(text, end);
+    let from = offset_of(encoding, text, start);
+    let to = offset_of(encoding, text, end);
     Some(Told { lint, from, to })
 }
 
@@ -157,11 +157,11 @@ fn is_kind_of_inlining(kind: &Value) -> bool
 }
 
 /// The byte offset at which the range of a request begins.
-pub fn asked_at(text: &str, message: &Value) -> Option<usize>
-    ensures { result ≡ wanted.asked_at text.now (view message.now) }
+pub fn asked_at(encoding: PositionEncoding, text: &str, message: &Value) -> Option<usize>
+    ensures { result ≡ wanted.asked_at encoding text.now (view message.now) }
 {
     match position_at(message, "/params/range/start") {
-        Some(start) => Some(offset_of(text, start)),
+        Some(start) => Some(offset_of(encoding, text, start)),
         None => None,
     }
 }

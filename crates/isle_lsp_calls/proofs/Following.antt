@@ -17,6 +17,7 @@ use Rattle.isle_lsp_text.specs.declared.positions.Range.{Range}
 use Rattle.isle_resolve.specs.Names.{NameNode, global, name_text}
 use Rattle.isle_resolve.specs.Scopes.{SeenNode}
 use Rattle.isle_resolve.specs.declared.event.Kind.TheVariants as kinds
+use Rattle.isle_lsp_text.specs.declared.positions.PositionEncoding.{PositionEncoding}
 
 -- a position is its file and its offset
 pub is_pos : (p : Pos) (file offset : ℕ) → p.file ≡ file → p.offset ≡ offset → p ≡ pos file offset
@@ -38,14 +39,14 @@ next_text left next program s number all found old new here e is grown so_far re
     subst (AreIncomingFrom 0 program all found) (sym (ap (λ ds. ds ++ rest) grown ∙ append_assoc old here rest)) more
 
 -- the calls of a word, behind those of the words before it
-pub next_word : (left next words : List (List ℕ)) (w : List ℕ) (program : List Source) (number : ℕ) (text : List ℕ) (callers : List Caller) (all : List SeenNode) (old new here : List Data)
-    → left ≡ w ∷ next → IsCallOf program number text callers all w here → new ≡ old ++ here
-    → ((rest : List Data) → AreCallsOf program number text callers all left rest → AreCallsOf program number text callers all words (old ++ rest))
-    → (rest : List Data) → AreCallsOf program number text callers all next rest → AreCallsOf program number text callers all words (new ++ rest)
-next_word left next words w program number text callers all old new here e is grown so_far rest others =
-    let first : AreCallsOf program number text callers all (w ∷ next) (here ++ rest) = (here, rest, is, others, refl) in
-    let more = so_far (here ++ rest) (subst (λ ws. AreCallsOf program number text callers all ws (here ++ rest)) (sym e) first) in
-    subst (AreCallsOf program number text callers all words) (sym (ap (λ ds. ds ++ rest) grown ∙ append_assoc old here rest)) more
+pub next_word : (enc : PositionEncoding) (left next words : List (List ℕ)) (w : List ℕ) (program : List Source) (number : ℕ) (text : List ℕ) (callers : List Caller) (all : List SeenNode) (old new here : List Data)
+    → left ≡ w ∷ next → IsCallOf enc program number text callers all w here → new ≡ old ++ here
+    → ((rest : List Data) → AreCallsOf enc program number text callers all left rest → AreCallsOf enc program number text callers all words (old ++ rest))
+    → (rest : List Data) → AreCallsOf enc program number text callers all next rest → AreCallsOf enc program number text callers all words (new ++ rest)
+next_word enc left next words w program number text callers all old new here e is grown so_far rest others =
+    let first : AreCallsOf enc program number text callers all (w ∷ next) (here ++ rest) = (here, rest, is, others, refl) in
+    let more = so_far (here ++ rest) (subst (λ ws. AreCallsOf enc program number text callers all ws (here ++ rest)) (sym e) first) in
+    subst (AreCallsOf enc program number text callers all words) (sym (ap (λ ds. ds ++ rest) grown ∙ append_assoc old here rest)) more
 
 -- the calls of a term that has an item, if it has one, in these ranges
 abbrev pub calls_to : (item : Option Data) → List Range → List Data
@@ -59,17 +60,17 @@ given to call rs false some is = ap (λ d. d ∷ []) is
 pub given_to : (to call : Data) (rs read : List Range) → read ≡ rs → (length read == 0) ≡ false → call ≡ outgoing_call to read → call ∷ [] ≡ outgoing_to to rs
 given_to to call rs read same some is = subst (λ r. call ∷ [] ≡ outgoing_to to r) same (given to call read (length read == 0) some is)
 
-to_item : (number : ℕ) (text : List ℕ) (callers : List Caller) (all : List SeenNode) (term : NameNode) (found : List Occurrence) (item : Option Data)
-    → InOrder (occurrences term all) found → IsCallTo number text callers all term item (calls_to item (calls_in number text callers found))
-to_item number text callers all term found None order = refl
-to_item number text callers all term found (Some to) order = (found, order, refl)
+to_item : (enc : PositionEncoding) (number : ℕ) (text : List ℕ) (callers : List Caller) (all : List SeenNode) (term : NameNode) (found : List Occurrence) (item : Option Data)
+    → InOrder (occurrences term all) found → IsCallTo enc number text callers all term item (calls_to item (calls_in enc number text callers found))
+to_item enc number text callers all term found None order = refl
+to_item enc number text callers all term found (Some to) order = (found, order, refl)
 
 -- the calls of a term, whose definitions are among its occurrences
-pub call_of : (program : List Source) (number : ℕ) (text : List ℕ) (callers : List Caller) (all : List SeenNode) (word spelled : List ℕ) (found : List Occurrence) (item : Option Data)
+pub call_of : (enc : PositionEncoding) (program : List Source) (number : ℕ) (text : List ℕ) (callers : List Caller) (all : List SeenNode) (word spelled : List ℕ) (found : List Occurrence) (item : Option Data)
     → spelled ≡ word → InOrder (occurrences (global kinds.Term spelled) all) found
     → IsFirstItem program (global kinds.Term spelled) (slice_get (filter (λ o. o.is_definition) found) 0) item
-    → IsCallOf program number text callers all word (calls_to item (calls_in number text callers found))
-call_of program number text callers all word spelled found item same order first =
+    → IsCallOf enc program number text callers all word (calls_to item (calls_in enc number text callers found))
+call_of enc program number text callers all word spelled found item same order first =
     let term : NameNode = global kinds.Term spelled in
-    subst (λ w. IsCallOf program number text callers all w (calls_to item (calls_in number text callers found))) same
-    (item, (filter (λ o. o.is_definition) found, defined_in_order term all found order, first), to_item number text callers all term found item order)
+    subst (λ w. IsCallOf enc program number text callers all w (calls_to item (calls_in enc number text callers found))) same
+    (item, (filter (λ o. o.is_definition) found, defined_in_order term all found order, first), to_item enc number text callers all term found item order)

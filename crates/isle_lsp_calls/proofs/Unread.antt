@@ -23,6 +23,7 @@ use Rattle.isle_lsp_text.specs.declared.positions.Range.{Range}
 use Rattle.isle_resolve.specs.Names.{NameNode, global}
 use Rattle.isle_resolve.specs.Scopes.{SeenNode}
 use Rattle.isle_resolve.specs.declared.event.Kind.TheVariants as kinds
+use Rattle.isle_lsp_text.specs.declared.positions.PositionEncoding.{PositionEncoding}
 
 abbrev lists_in : List ℕ → List ListSpan
 lists_in text = lists_of [] (computed (length text) (length text) text).tokens
@@ -54,13 +55,13 @@ some_callers text =
 
 -- ---- incoming calls
 
-none_called : (number : ℕ) (text : List ℕ) (callers : List Caller) (found : List Occurrence) → list_any (is_in number) found ≡ false → calls_in number text callers found ≡ []
-none_called number text callers [] h = refl
-none_called number text callers (o ∷ os) h =
+none_called : (enc : PositionEncoding) (number : ℕ) (text : List ℕ) (callers : List Caller) (found : List Occurrence) → list_any (is_in number) found ≡ false → calls_in enc number text callers found ≡ []
+none_called enc number text callers [] h = refl
+none_called enc number text callers (o ∷ os) h =
     let both = or_parts (is_in number o) (list_any (is_in number) os) h in
-    rw both.0 (none_called number text callers os both.1)
+    rw both.0 (none_called enc number text callers os both.1)
 
-none_by : (number : ℕ) (s : Source) (all : List SeenNode) (found : List Occurrence) (c : Caller) → calls_in number s.text (c ∷ []) found ≡ [] → incoming_in number s all found c ≡ []
+none_by : (number : ℕ) (s : Source) (all : List SeenNode) (found : List Occurrence) (c : Caller) → calls_in s.encoding number s.text (c ∷ []) found ≡ [] → incoming_in number s all found c ≡ []
 none_by number s all found c none =
     let given : List Range → List Data = λ rs. if length rs == 0 then [] else by_caller s c (term_at (pos number c.name) all) rs in
     ap given none
@@ -69,7 +70,7 @@ none_by_all : (number : ℕ) (s : Source) (all : List SeenNode) (found : List Oc
     → flat_map (incoming_in number s all found) callers ≡ []
 none_by_all number s all found [] h = refl
 none_by_all number s all found (c ∷ cs) h =
-    ap (λ ds. ds ++ flat_map (incoming_in number s all found) cs) (none_by number s all found c (none_called number s.text (c ∷ []) found h))
+    ap (λ ds. ds ++ flat_map (incoming_in number s all found) cs) (none_by number s all found c (none_called s.encoding number s.text (c ∷ []) found h))
     ∙ none_by_all number s all found cs h
 
 -- in a text without an occurrence nothing calls
@@ -97,8 +98,8 @@ empty [] e = refl
 empty (x ∷ xs) e = absurd (omega (arith, e))
 
 -- a term that is not called, whatever its item
-pub none_outgoing : (program : List Source) (number : ℕ) (text : List ℕ) (callers : List Caller) (all : List SeenNode) (word spelled : List ℕ) (found : List Occurrence)
-    → spelled ≡ word → InOrder (occurrences (global kinds.Term spelled) all) found → calls_in number text callers found ≡ [] → IsCallOf program number text callers all word []
-none_outgoing program number text callers all word spelled found same order none =
+pub none_outgoing : (enc : PositionEncoding) (program : List Source) (number : ℕ) (text : List ℕ) (callers : List Caller) (all : List SeenNode) (word spelled : List ℕ) (found : List Occurrence)
+    → spelled ≡ word → InOrder (occurrences (global kinds.Term spelled) all) found → calls_in enc number text callers found ≡ [] → IsCallOf enc program number text callers all word []
+none_outgoing enc program number text callers all word spelled found same order none =
     let some = some_item program (global kinds.Term spelled) (slice_get (filter (λ o. o.is_definition) found) 0) in
-    subst (IsCallOf program number text callers all word) (ap (calls_to some.0) none ∙ none_to some.0) (call_of program number text callers all word spelled found some.0 same order some.1)
+    subst (IsCallOf enc program number text callers all word) (ap (calls_to some.0) none ∙ none_to some.0) (call_of enc program number text callers all word spelled found some.0 same order some.1)

@@ -18,7 +18,7 @@ use Rattle.isle_resolve.specs.Scopes.{SeenNode}
 
 -- the item of a definition that implements this name
 abbrev pub caller_item : Source → Caller → (name : List ℕ) → Data
-caller_item s c name = call_item name s.uri (range_between s.text c.from c.to) (range_at s.text c.name (length name))
+caller_item s c name = call_item name s.uri (range_between s.encoding s.text c.from c.to) (range_at s.encoding s.text c.name (length name))
 
 -- the calls in these ranges by a definition, if it implements a term
 abbrev pub by_caller : Source → Caller → (implemented : Option NameNode) → List Range → List Data
@@ -28,7 +28,7 @@ by_caller s c (Some term) rs = incoming_call (caller_item s c (name_text term)) 
 -- those of the occurrences that are calls by a definition of the text with this number, if there are any
 abbrev pub incoming_in : ℕ → Source → List SeenNode → List Occurrence → Caller → List Data
 incoming_in number s all found c =
-    let rs : List Range = calls_in number s.text (c ∷ []) found in
+    let rs : List Range = calls_in s.encoding number s.text (c ∷ []) found in
     if length rs == 0 then [] else by_caller s c (term_at (pos number c.name) all) rs
 
 abbrev pub AreIncomingIn : ℕ → Source → List SeenNode → List Occurrence → List Data → Type 0

@@ -13,6 +13,7 @@ use Rattle.isle_lsp_text.specs.Lists.{AreLists}
 use Rattle.isle_lsp_text.specs.Ranges.{range_at, range_between}
 use Rattle.isle_lsp_text.specs.Wholes.{whole_of}
 use Rattle.isle_lsp_text.specs.declared.lists.ListSpan.{ListSpan}
+use Rattle.isle_lsp_text.specs.declared.positions.PositionEncoding.{PositionEncoding}
 use Rattle.isle_lsp_text.specs.declared.positions.Range.{Range}
 use Rattle.isle_lsp_text.specs.declared.wholes.Part.{Part}
 use Rattle.isle_resolve.specs.Names.{NameNode, global, variable, name_text}
@@ -41,8 +42,8 @@ only_term (Some name) = if is_term name then Some name else None
 abbrev pub term_at : Pos → List SeenNode → Option NameNode
 term_at place all = only_term (name_at place all)
 
-abbrev pub range_of : List ℕ → Part → Range
-range_of text p = range_between text p.from p.to
+abbrev pub range_of : PositionEncoding → List ℕ → Part → Range
+range_of enc text p = range_between enc text p.from p.to
 
 -- a definition of a name is a variant: it is written shorter than its name, which begins with the name of its type
 abbrev pub is_variant : NameNode → Occurrence → Bool
@@ -54,7 +55,7 @@ extent_of text lists name o = whole_of text lists (is_variant name o) o.pos.offs
 
 -- the item of a definition, by the lists of its text
 abbrev pub item_of : Source → List ListSpan → NameNode → Occurrence → Data
-item_of s lists name o = call_item (name_text name) s.uri (range_of s.text (extent_of s.text lists name o)) (range_at s.text o.pos.offset o.len)
+item_of s lists name o = call_item (name_text name) s.uri (range_of s.encoding s.text (extent_of s.text lists name o)) (range_at s.encoding s.text o.pos.offset o.len)
 
 abbrev pub IsItemIn : Source → NameNode → Occurrence → Data → Type 0
 IsItemIn s name o d = (lists : List ListSpan) × AreLists s.text lists × (d ≡ item_of s lists name o)

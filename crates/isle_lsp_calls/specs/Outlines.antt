@@ -6,7 +6,7 @@ use Rattle.isle_lsp_text.specs.Lists.{AreLists}
 
 -- the text of an outline
 abbrev pub outlined : Outline → Source
-outlined o = source o.uri.now o.ruler.text.now
+outlined o = source o.ruler.encoding o.uri.now o.ruler.text.now
 
 -- an outline has the lists of its text
 abbrev pub IsOutline : Outline → Type 0

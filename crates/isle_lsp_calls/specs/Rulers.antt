@@ -5,4 +5,4 @@ use Rattle.isle_lsp_text.specs.Positions.{IsPlace}
 
 -- the marks of a ruler are places of its text
 abbrev pub IsRuler : Ruler → Type 0
-IsRuler r = All (IsPlace r.text.now) r.marks.items
+IsRuler r = All (IsPlace r.encoding r.text.now) r.marks.items

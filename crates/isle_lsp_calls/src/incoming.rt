@@ -82,7 +82,7 @@ fn add_incoming(
         return Ok(());
     }
     let callers = callers(alloc, source.text)?;
-    let ruler = ruler_of(alloc, source.text)?;
+    let ruler = ruler_of(alloc, source.encoding, source.text)?;
     for caller in &callers {
         let call = incoming_in(alloc, number, source.uri, &ruler, index, caller, found)?;
         add_some(calls, call)?;
@@ -102,8 +102,8 @@ fn incoming_in(
 ) -> Result<Option<Value>, AllocError>
     requires { IsRuler ruler.now }
     ensures { IfOk result (λ call. option_to_list (option_map view call)
-        ≡ wanted.incoming_in number (source uri.now ruler.now.text.now) (all_in index.now)
-        found.now caller.now) }
+        ≡ wanted.incoming_in number (source ruler.now.encoding uri.now ruler.now.text.now)
+        (all_in index.now) found.now caller.now) }
 {
     let ranges = calls_in(alloc, number, ruler, slice::from_ref(caller), found)?;
     if ranges.is_empty() {
@@ -125,8 +125,8 @@ fn by_caller(
     requires { IsRuler ruler.now }
     ensures { let place = pos number caller.now.name in IfOk result (λ call.
         option_to_list (option_map view call) ≡ wanted.by_caller
-        (source uri.now ruler.now.text.now) caller.now (term_at place (all_in index.now))
-        ranges.now) }
+        (source ruler.now.encoding uri.now ruler.now.text.now) caller.now
+        (term_at place (all_in index.now)) ranges.now) }
 {
     match term_at(alloc, index, Pos::new(number, caller.name))? {
         Some(name) => {
@@ -147,7 +147,8 @@ fn caller_item(
 ) -> Result<Value, AllocError>
     requires { IsRuler ruler.now }
     ensures { IfOk result (λ item. view item
-        ≡ wanted.caller_item (source uri.now ruler.now.text.now) caller.now name.now) }
+        ≡ wanted.caller_item (source ruler.now.encoding uri.now ruler.now.text.now) caller.now
+        name.now) }
 {
     let range = range_from(ruler, caller.from, caller.to);
     let selection = range_at(ruler, caller.name, name.len());

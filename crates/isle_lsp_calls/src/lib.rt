@@ -12,9 +12,13 @@ mod outlines;
 pub mod ranges;
 mod rulers;
 
+use isle_lsp_text::positions::PositionEncoding;
+
 /// A text of a program.
 #[derive(Clone, Copy)]
 pub struct Source<'a> {
+    /// How positions in the text are counted.
+    pub encoding: PositionEncoding,
     /// Its URI, as the client spells it.
     pub uri: &'a str,
     /// The text.

@@ -23,6 +23,7 @@ use isle_base::lexer::Pos;
 use isle_index::{Index, Kind, Name, Occurrence};
 use isle_lsp_protocol::results::outgoing_call;
 use isle_lsp_text::calls::{Caller, callers, words};
+use isle_lsp_text::positions::PositionEncoding;
 use serde_json::Value;
 use std::alloc::{AllocError, Global};
 use std::slice;
@@ -35,19 +36,22 @@ use std::slice;
 /// implements, it alone counts. Terms that are not defined are left out.
 pub fn outgoing(
     alloc: Global,
+    encoding: PositionEncoding,
     program: &[Source],
     index: &Index,
     place: Pos,
     text: &str,
 ) -> Result<Value, AllocError>
-    ensures { let all = all_in index.now in IfOk result (λ value. IsOutgoing
+    ensures { let all = all_in index.now in IfOk result (λ value. IsOutgoing encoding
         (map source_of program.now) place.file text.now (term_at place all)
         (occurrence_at place all) all (view value)) }
 {
     match (term_at(alloc, index, place)?, index.occurrence_at(place)) {
         (Some(name), Some(at)) => {
             let found = index.occurrences(alloc, &name)?;
-            outgoing_of(alloc, program, index, place.file, text, &found, at)
+            outgoing_of(
+                alloc, encoding, program, index, place.file, text, &found, at,
+            )
         }
         _ => Ok(Value::Null),
     }
@@ -56,6 +60,7 @@ pub fn outgoing(
 /// The same for a term with these occurrences, at one of them.
 fn outgoing_of(
     alloc: Global,
+    encoding: PositionEncoding,
     program: &[Source],
     index: &Index,
     number: usize,
@@ -63,8 +68,8 @@ fn outgoing_of(
     found: &[Occurrence],
     at: Occurrence,
 ) -> Result<Value, AllocError>
-    ensures { IfOk result (λ value. IsOutgoingOf (map source_of program.now) number text.now
-        found.now at (all_in index.now) (view value)) }
+    ensures { IfOk result (λ value. IsOutgoingOf encoding (map source_of program.now) number
+        text.now found.now at (all_in index.now) (view value)) }
 {
     let callers = asked_callers(alloc, number, text, found, at)?;
     let words = words(alloc, text, &callers)?;
@@ -72,7 +77,7 @@ fn outgoing_of(
         return Ok(Value::Array(Vec::new(alloc)));
     }
     let outlines = outlines(alloc, program)?;
-    let ruler = ruler_of(alloc, text)?;
+    let ruler = ruler_of(alloc, encoding, text)?;
     let calls = calls_of(alloc, &outlines, index, number, &ruler, &callers, &words)?;
     Ok(Value::Array(calls))
 }
@@ -152,7 +157,7 @@ fn calls_of(
 ) -> Result<Vec<Value>, AllocError>
     requires outlines { All IsOutline outlines.now }
     requires ruler { IsRuler ruler.now }
-    ensures { IfOk result (λ calls. AreCallsOf (map outlined outlines.now) number
+    ensures { IfOk result (λ calls. AreCallsOf ruler.now.encoding (map outlined outlines.now) number
         ruler.now.text.now callers.now (all_in index.now) (map (λ word. word.now) words.now)
         (map view calls.items)) }
 {
@@ -176,7 +181,7 @@ fn call_of(
 ) -> Result<Option<Value>, AllocError>
     requires outlines { All IsOutline outlines.now }
     requires ruler { IsRuler ruler.now }
-    ensures { IfOk result (λ call. IsCallOf (map outlined outlines.now) number
+    ensures { IfOk result (λ call. IsCallOf ruler.now.encoding (map outlined outlines.now) number
         ruler.now.text.now callers.now (all_in index.now) word.now
         (option_to_list (option_map view call))) }
 {

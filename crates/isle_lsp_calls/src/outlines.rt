@@ -44,7 +44,7 @@ pub(crate) fn outline_of<'a>(alloc: Global, source: Source<'a>) -> Result<Outlin
     ensures text { IfOk result (λ outline. outlined outline ≡ source_of source.entry) }
 {
     let uri = source.uri;
-    let ruler = ruler_of(alloc, source.text)?;
+    let ruler = ruler_of(alloc, source.encoding, source.text)?;
     let lists = lists(alloc, source.text)?;
     Ok(Outline { uri, ruler, lists })
 }

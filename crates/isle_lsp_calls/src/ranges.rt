@@ -34,7 +34,7 @@ pub(crate) fn calls_in(
 ) -> Result<Vec<Range>, AllocError>
     requires { IsRuler ruler.now }
     ensures { IfOk result (λ ranges. ranges.items
-        ≡ wanted.calls_in number ruler.now.text.now callers.now found.now) }
+        ≡ wanted.calls_in ruler.now.encoding number ruler.now.text.now callers.now found.now) }
 {
     let mut ranges = Vec::new(alloc);
     for occurrence in found {
@@ -54,7 +54,7 @@ fn call_in(
 ) -> Option<Range>
     requires { IsRuler ruler.now }
     ensures { option_to_list result
-        ≡ wanted.call_in number ruler.now.text.now callers.now occurrence }
+        ≡ wanted.call_in ruler.now.encoding number ruler.now.text.now callers.now occurrence }
 {
     if occurrence.pos.file == number && some_calls_at(callers, occurrence.pos.offset) {
         Some(range_at(ruler, occurrence.pos.offset, occurrence.len))

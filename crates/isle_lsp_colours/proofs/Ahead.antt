@@ -7,6 +7,7 @@ use Rattle.isle_lsp_text.specs.declared.positions.Position.{Position}
 use Rattle.isle_lsp_colours.specs.Classes.{modifiers, type_number}
 use Rattle.isle_lsp_colours.specs.Tokens.{AreInOrder, Told, column_after, decoded, encoded, origin, start_after, told}
 use Rattle.isle_lsp_colours.specs.declared.tokens.Token.{Token}
+use Rattle.isle_lsp_text.specs.declared.positions.PositionEncoding.{PositionEncoding}
 
 -- a position is on a later line, or on the same line as far or farther
 abbrev pub IsAhead : (before start : Position) → Type 0
@@ -20,35 +21,35 @@ from_later_unit : (line unit more : ℕ) (p : Position) → IsAhead (position li
 from_later_unit line unit more p (inl h) = inl h
 from_later_unit line unit more p (inr h) = inr (h.0, omega (arith, h.1))
 
-nil_stays : (line unit n : ℕ) → position_from line unit n [] ≡ position line unit
+nil_stays : (enc : PositionEncoding) (line unit n : ℕ) → position_from enc line unit n [] ≡ position line unit
 unfolding position_from
-nil_stays line unit zero = refl
-nil_stays line unit (suc n) = refl
+nil_stays enc line unit zero = refl
+nil_stays enc line unit (suc n) = refl
 
-starts_before : (line unit n : ℕ) (bytes : List ℕ) → IsAhead (position line unit) (position_from line unit n bytes)
-starts_before line unit zero bytes = subst (IsAhead (position line unit)) (sym (p_zero line unit bytes)) (inr (refl, omega arith))
-starts_before line unit (suc n) [] = subst (IsAhead (position line unit)) (sym (nil_stays line unit (suc n))) (inr (refl, omega arith))
-starts_before line unit (suc n) (b ∷ bytes) = elim (cases_Bool (ends_line b bytes)) [
-  | inl e ↦ subst (IsAhead (position line unit)) (sym (p_end line unit n b bytes e)) (from_later_line line unit _ (starts_before (line + 1) 0 n bytes))
-  | inr e ↦ subst (IsAhead (position line unit)) (sym (p_more line unit n b bytes e)) (from_later_unit line unit (unit_count b) _ (starts_before line (unit + unit_count b) n bytes))
+starts_before : (enc : PositionEncoding) (line unit n : ℕ) (bytes : List ℕ) → IsAhead (position line unit) (position_from enc line unit n bytes)
+starts_before enc line unit zero bytes = subst (IsAhead (position line unit)) (sym (p_zero enc line unit bytes)) (inr (refl, omega arith))
+starts_before enc line unit (suc n) [] = subst (IsAhead (position line unit)) (sym (nil_stays enc line unit (suc n))) (inr (refl, omega arith))
+starts_before enc line unit (suc n) (b ∷ bytes) = elim (cases_Bool (ends_line b bytes)) [
+  | inl e ↦ subst (IsAhead (position line unit)) (sym (p_end enc line unit n b bytes e)) (from_later_line line unit _ (starts_before enc (line + 1) 0 n bytes))
+  | inr e ↦ subst (IsAhead (position line unit)) (sym (p_more enc line unit n b bytes e)) (from_later_unit line unit (unit_count enc b) _ (starts_before enc line (unit + unit_count enc b) n bytes))
 ]
 
-goes_on : (line unit n more : ℕ) (bytes : List ℕ) → IsAhead (position_from line unit n bytes) (position_from line unit (n + more) bytes)
-goes_on line unit zero more bytes = subst (λ p. IsAhead p (position_from line unit (0 + more) bytes)) (sym (p_zero line unit bytes)) (starts_before line unit (0 + more) bytes)
-goes_on line unit (suc n) more [] =
-    subst (λ p. IsAhead p (position_from line unit (suc n + more) [])) (sym (nil_stays line unit (suc n))) (starts_before line unit (suc n + more) [])
-goes_on line unit (suc n) more (b ∷ bytes) =
+goes_on : (enc : PositionEncoding) (line unit n more : ℕ) (bytes : List ℕ) → IsAhead (position_from enc line unit n bytes) (position_from enc line unit (n + more) bytes)
+goes_on enc line unit zero more bytes = subst (λ p. IsAhead p (position_from enc line unit (0 + more) bytes)) (sym (p_zero enc line unit bytes)) (starts_before enc line unit (0 + more) bytes)
+goes_on enc line unit (suc n) more [] =
+    subst (λ p. IsAhead p (position_from enc line unit (suc n + more) [])) (sym (nil_stays enc line unit (suc n))) (starts_before enc line unit (suc n + more) [])
+goes_on enc line unit (suc n) more (b ∷ bytes) =
     let on : suc (n + more) ≡ suc n + more = omega arith in
-    subst (λ k. IsAhead (position_from line unit (suc n) (b ∷ bytes)) (position_from line unit k (b ∷ bytes))) on
+    subst (λ k. IsAhead (position_from enc line unit (suc n) (b ∷ bytes)) (position_from enc line unit k (b ∷ bytes))) on
     (elim (cases_Bool (ends_line b bytes)) [
-      | inl e ↦ rw (p_end line unit n b bytes e, p_end line unit (n + more) b bytes e) (goes_on (line + 1) 0 n more bytes)
-      | inr e ↦ rw (p_more line unit n b bytes e, p_more line unit (n + more) b bytes e) (goes_on line (unit + unit_count b) n more bytes)
+      | inl e ↦ rw (p_end enc line unit n b bytes e, p_end enc line unit (n + more) b bytes e) (goes_on enc (line + 1) 0 n more bytes)
+      | inr e ↦ rw (p_more enc line unit n b bytes e, p_more enc line unit (n + more) b bytes e) (goes_on enc line (unit + unit_count enc b) n more bytes)
     ])
 
-pub later_ahead : (text : List ℕ) (a b : ℕ) → a ≤ b → IsAhead (position_at a text) (position_at b text)
-later_ahead text a b h =
+pub later_ahead : (enc : PositionEncoding) (text : List ℕ) (a b : ℕ) → a ≤ b → IsAhead (position_at enc a text) (position_at enc b text)
+later_ahead enc text a b h =
     let sum : a + (b - a) ≡ b = omega (arith, h) in
-    subst (λ n. IsAhead (position_at a text) (position_at n text)) sum (goes_on 0 0 a (b - a) text)
+    subst (λ n. IsAhead (position_at enc a text) (position_at enc n text)) sum (goes_on enc 0 0 a (b - a) text)
 
 -- ---- what the numbers tell
 
@@ -65,23 +66,23 @@ told_again before start (inr h) =
     let none : (start.line - before.line == 0) ≡ true = eq-eqb _ _ (omega (arith, h.0)) in
     rw (same, none) (same_place _ _ _ _ h.0 (omega (arith, h.1)))
 
-told_from : (text : List ℕ) (size last from : ℕ) (ts : List Token) → last ≤ from → AreInOrder size from ts →
-    decoded (position_at last text) (encoded text (position_at last text) ts) ≡ map (told text) ts
-told_from text size last from [] h up = refl
-told_from text size last from (t ∷ ts) h up =
-    let before = position_at last text in
-    let start = position_at t.from text in
-    let here = told_again before start (later_ahead text last t.from (omega (arith, h, up.0))) in
-    let more = told_from text size t.from t.to ts (omega (arith, up.1)) up.3 in
+told_from : (enc : PositionEncoding) (text : List ℕ) (size last from : ℕ) (ts : List Token) → last ≤ from → AreInOrder size from ts →
+    decoded (position_at enc last text) (encoded enc text (position_at enc last text) ts) ≡ map (told enc text) ts
+told_from enc text size last from [] h up = refl
+told_from enc text size last from (t ∷ ts) h up =
+    let before = position_at enc last text in
+    let start = position_at enc t.from text in
+    let here = told_again before start (later_ahead enc text last t.from (omega (arith, h, up.0))) in
+    let more = told_from enc text size t.from t.to ts (omega (arith, up.1)) up.3 in
     let one : Position → List Told = λ p. record {
       start = p;
-      length = (position_at t.to text).unit - start.unit;
+      length = (position_at enc t.to text).unit - start.unit;
       type = type_number t.class.kind;
       modifiers = modifiers t.class;
-    } ∷ decoded p (encoded text start ts) in
-    ap one here ∙ ap (λ xs. told text t ∷ xs) more
+    } ∷ decoded p (encoded enc text start ts) in
+    ap one here ∙ ap (λ xs. told enc text t ∷ xs) more
 
-pub numbers_told : (text : List ℕ) (size : ℕ) (ts : List Token) → AreInOrder size 0 ts → decoded origin (encoded text origin ts) ≡ map (told text) ts
-numbers_told text size ts up =
-    let at_start : position_at 0 text ≡ origin = p_zero 0 0 text in
-    subst (λ p. decoded p (encoded text p ts) ≡ map (told text) ts) at_start (told_from text size 0 0 ts (omega arith) up)
+pub numbers_told : (enc : PositionEncoding) (text : List ℕ) (size : ℕ) (ts : List Token) → AreInOrder size 0 ts → decoded origin (encoded enc text origin ts) ≡ map (told enc text) ts
+numbers_told enc text size ts up =
+    let at_start : position_at enc 0 text ≡ origin = p_zero enc 0 0 text in
+    subst (λ p. decoded p (encoded enc text p ts) ≡ map (told enc text) ts) at_start (told_from enc text size 0 0 ts (omega arith) up)

@@ -12,6 +12,7 @@ use Rattle.isle_base.specs.Token.{Ending, Lexeme, Tok, at_sign, integer, lparen,
 use Rattle.isle_lsp_text.proofs.Places.{composes, p_more, p_zero}
 use Rattle.isle_lsp_text.specs.Positions.{ends_line, position, position_at, position_from, unit_count, units}
 use Rattle.isle_lsp_colours.specs.Tokens.{IsOnOneLine}
+use Rattle.isle_lsp_text.specs.declared.positions.PositionEncoding.{PositionEncoding}
 
 -- ---- where tokens are
 
@@ -124,30 +125,30 @@ not_end b rest is = elim (cases_Bool (b == 10)) [
 same_unit : (line a b : ℕ) → a ≡ b → position line a ≡ position line b
 same_unit line a b e = ap (position line) e
 
-through : (line unit : ℕ) (run after : List ℕ) → list_all in_line run ≡ true → position_from line unit (length run) (run ++ after) ≡ position line (unit + units run)
-through line unit [] after all = p_zero line unit after ∙ same_unit line unit (unit + 0) (omega arith)
-through line unit (b ∷ run) after all =
+through : (enc : PositionEncoding) (line unit : ℕ) (run after : List ℕ) → list_all in_line run ≡ true → position_from enc line unit (length run) (run ++ after) ≡ position line (unit + units enc run)
+through enc line unit [] after all = p_zero enc line unit after ∙ same_unit line unit (unit + 0) (omega arith)
+through enc line unit (b ∷ run) after all =
     let p = and_parts (in_line b) (list_all in_line run) all in
-    p_more line unit (length run) b (run ++ after) (not_end b (run ++ after) p.0) ∙ through line (unit + unit_count b) run after p.1
+    p_more enc line unit (length run) b (run ++ after) (not_end b (run ++ after) p.0) ∙ through enc line (unit + unit_count enc b) run after p.1
     ∙ same_unit line _ _ (omega arith)
 
 -- a token between these bytes and those
-on_line : (text before run after : List ℕ) (from to : ℕ) → text ≡ before ++ (run ++ after) → from ≡ length before → to ≡ length run + length before →
-    list_all in_line run ≡ true → IsOnOneLine text from to
-on_line text before run after from to split starts stops all =
+on_line : (enc : PositionEncoding) (text before run after : List ℕ) (from to : ℕ) → text ≡ before ++ (run ++ after) → from ≡ length before → to ≡ length run + length before →
+    list_all in_line run ≡ true → IsOnOneLine enc text from to
+on_line enc text before run after from to split starts stops all =
     let behind : drop (length before) text ≡ run ++ after = ap (drop (length before)) split ∙ drop-append_seam before (run ++ after) in
     let count : to - from ≡ length run = omega (arith, starts, stops) in
     let inside : slice_range text from to ≡ run =
     ap (λ n. take n (drop from text)) count ∙ ap (λ n. take (length run) (drop n text)) starts ∙ ap (take (length run)) behind ∙ take-append_seam run after in
-    let p = position_from 0 0 (length before) text in
-    ap (λ n. position_at n text) stops ∙ composes 0 0 (length before) (length run) text ∙ ap (position_from p.line p.unit (length run)) behind
-    ∙ through p.line p.unit run after all ∙ ap (λ xs. position p.line (p.unit + units xs)) (sym inside)
-    ∙ ap (λ n. position (position_at n text).line ((position_at n text).unit + units (slice_range text from to))) (sym starts)
+    let p = position_from enc 0 0 (length before) text in
+    ap (λ n. position_at enc n text) stops ∙ composes enc 0 0 (length before) (length run) text ∙ ap (position_from enc p.line p.unit (length run)) behind
+    ∙ through enc p.line p.unit run after all ∙ ap (λ xs. position p.line (p.unit + units enc xs)) (sym inside)
+    ∙ ap (λ n. position (position_at enc n text).line ((position_at enc n text).unit + units enc (slice_range text from to))) (sym starts)
 
-lexed_on_lines : (text rest : List ℕ) (xs : List Lexeme) (ending : Ending) → IsEnd text rest → Lexes (length text) rest xs ending →
-    AllByRecursion (λ x. IsOnOneLine text x.offset x.after) xs
-lexed_on_lines text rest [] ending at l = tt
-lexed_on_lines text rest (x ∷ xs) ending at l =
+lexed_on_lines : (enc : PositionEncoding) (text rest : List ℕ) (xs : List Lexeme) (ending : Ending) → IsEnd text rest → Lexes (length text) rest xs ending →
+    AllByRecursion (λ x. IsOnOneLine enc text x.offset x.after) xs
+lexed_on_lines enc text rest [] ending at l = tt
+lexed_on_lines enc text rest (x ∷ xs) ending at l =
     let from = l.0 in
     let after = l.1 in
     let here = then text rest from at (skip_ends l.2) in
@@ -158,9 +159,9 @@ lexed_on_lines text rest (x ∷ xs) ending at l =
     let more = length-append r.0 after in
     let long = ap length r.1 in
     let next = then text from after here (r.0, r.1) in (
-      on_line text here.0 r.0 after x.offset x.after split (omega (arith, l.4, size, parts, long)) (omega (arith, l.5, size, parts, more)) r.2,
-      lexed_on_lines text after xs ending next l.6,
+      on_line enc text here.0 r.0 after x.offset x.after split (omega (arith, l.4, size, parts, long)) (omega (arith, l.5, size, parts, more)) r.2,
+      lexed_on_lines enc text after xs ending next l.6,
     )
 
-pub on_one_line : (text : List ℕ) (xs : List Lexeme) (ending : Ending) → Lexes (length text) text xs ending → AllByRecursion (λ x. IsOnOneLine text x.offset x.after) xs
-on_one_line text xs ending l = lexed_on_lines text text xs ending ([], refl) l
+pub on_one_line : (enc : PositionEncoding) (text : List ℕ) (xs : List Lexeme) (ending : Ending) → Lexes (length text) text xs ending → AllByRecursion (λ x. IsOnOneLine enc text x.offset x.after) xs
+on_one_line enc text xs ending l = lexed_on_lines enc text text xs ending ([], refl) l

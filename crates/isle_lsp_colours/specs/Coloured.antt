@@ -9,17 +9,18 @@ use Rattle.isle_lsp_text.specs.declared.positions.Range.{Range}
 use Rattle.isle_lsp_colours.specs.Known.{AreKnown}
 use Rattle.isle_lsp_colours.specs.Names.{class_at}
 use Rattle.isle_lsp_colours.specs.Tokens.{tokens_data, tokens_of}
+use Rattle.isle_lsp_text.specs.declared.positions.PositionEncoding.{PositionEncoding}
 
 -- the offsets of a range
-abbrev pub offsets_of : List ℕ → Option Range → Option (ℕ × ℕ)
-offsets_of text within = option_map (λ r. (offset_at r.start text, offset_at r.end text)) within
+abbrev pub offsets_of : PositionEncoding → List ℕ → Option Range → Option (ℕ × ℕ)
+offsets_of enc text within = option_map (λ r. (offset_at enc r.start text, offset_at enc r.end text)) within
 
 -- These are the semantic tokens of a text, or those that begin within a range: of its tokens, up to its end or to a lexical error, those that have a
 -- class, by its known definitions.
-pub record AreTokens (text : List ℕ) (within : Option Range) (d : Data) : Type 0 where
+pub record AreTokens (enc : PositionEncoding) (text : List ℕ) (within : Option Range) (d : Data) : Type 0 where
   pub known : List Definition
   pub are : AreKnown text known
   pub tokens : List Lexeme
   pub ending : Ending
   pub lexed : lexes text tokens ending
-  pub is : d ≡ tokens_data text (tokens_of (λ offset. class_at offset known) (offsets_of text within) tokens)
+  pub is : d ≡ tokens_data enc text (tokens_of (λ offset. class_at offset known) (offsets_of enc text within) tokens)

@@ -12,6 +12,7 @@ use Rattle.isle_lsp_colours.specs.Keywords.{is_keyword}
 use Rattle.isle_lsp_colours.specs.declared.classes.Class.{Class}
 use Rattle.isle_lsp_colours.specs.declared.classes.TokenKind.TheVariants.{Keyword, Number}
 use Rattle.isle_lsp_colours.specs.declared.tokens.Token.{Token}
+use Rattle.isle_lsp_text.specs.declared.positions.PositionEncoding.{PositionEncoding}
 
 -- ---- which tokens have which class
 
@@ -58,16 +59,16 @@ abbrev pub numbers : (before start end : Position) → Class → List ℕ
 numbers before start end c = (start.line - before.line) ∷ column_after before start ∷ (end.unit - start.unit) ∷ type_number c.kind ∷ modifiers c ∷ []
 
 -- the numbers of tokens, where the one before them begins at this position
-abbrev pub encoded : List ℕ → (before : Position) → List Token → List ℕ
-encoded text before [] = []
-encoded text before (t ∷ ts) =
-    numbers before (position_at t.from text) (position_at t.to text) t.class ++ encoded text (position_at t.from text) ts
+abbrev pub encoded : PositionEncoding → List ℕ → (before : Position) → List Token → List ℕ
+encoded enc text before [] = []
+encoded enc text before (t ∷ ts) =
+    numbers before (position_at enc t.from text) (position_at enc t.to text) t.class ++ encoded enc text (position_at enc t.from text) ts
 
 abbrev pub count : ℕ → Data
 count n = number (unsigned n)
 
-abbrev pub tokens_data : List ℕ → List Token → Data
-tokens_data text ts = object (member (codes "data") (array (items_of (map count (encoded text origin ts)))) no_members)
+abbrev pub tokens_data : PositionEncoding → List ℕ → List Token → Data
+tokens_data enc text ts = object (member (codes "data") (array (items_of (map count (encoded enc text origin ts)))) no_members)
 
 -- ---- what the numbers tell
 
@@ -90,10 +91,10 @@ decoded before (lines ∷ units ∷ len ∷ kind ∷ mods ∷ ns) =
 decoded before _ = []
 
 -- what is to be told of a token
-abbrev pub told : List ℕ → Token → Told
-told text t = record {
-  start = position_at t.from text;
-  length = (position_at t.to text).unit - (position_at t.from text).unit;
+abbrev pub told : PositionEncoding → List ℕ → Token → Told
+told enc text t = record {
+  start = position_at enc t.from text;
+  length = (position_at enc t.to text).unit - (position_at enc t.from text).unit;
   type = type_number t.class.kind;
   modifiers = modifiers t.class;
 }
@@ -104,9 +105,9 @@ AreInOrder size from [] = Unit {0}
 AreInOrder size from (t ∷ ts) = (from ≤ t.from) × (t.from < t.to) × (t.to ≤ size) × AreInOrder size t.to ts
 
 -- the bytes between two offsets are on one line: the second one is so many units behind the first as their characters have
-abbrev pub IsOnOneLine : List ℕ → (from to : ℕ) → Type 0
-IsOnOneLine text from to =
-    position_at to text ≡ position (position_at from text).line ((position_at from text).unit + units (slice_range text from to))
+abbrev pub IsOnOneLine : PositionEncoding → List ℕ → (from to : ℕ) → Type 0
+IsOnOneLine enc text from to =
+    position_at enc to text ≡ position (position_at enc from text).line ((position_at enc from text).unit + units enc (slice_range text from to))
 
 -- ---- how they are found
 

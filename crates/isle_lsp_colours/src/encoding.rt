@@ -6,20 +6,25 @@ ghost use Rattle.isle_lsp_colours.specs.Tokens.{column_after, count, encoded, nu
 
 use crate::classes::Class;
 use crate::tokens::Token;
-use isle_lsp_text::positions::{Position, START, place_at};
+use isle_lsp_text::positions::{Position, PositionEncoding, START, place_at};
 use serde_json::Value;
 use std::alloc::{AllocError, Global};
 
 /// The numbers of tokens in order, as JSON.
-pub fn token_values(alloc: Global, text: &str, tokens: &[Token]) -> Result<Vec<Value>, AllocError>
+pub fn token_values(
+    alloc: Global,
+    encoding: PositionEncoding,
+    text: &str,
+    tokens: &[Token],
+) -> Result<Vec<Value>, AllocError>
     ensures { IfOk result (λ values. map view values.items
-        ≡ map count (encoded text.now origin tokens.now)) }
+        ≡ map count (encoded encoding text.now origin tokens.now)) }
 {
     let mut values = Vec::new(alloc);
     let mut last = START;
     for token in tokens {
-        let start = place_at(text, last, token.from);
-        let end = place_at(text, start, token.to);
+        let start = place_at(encoding, text, last, token.from);
+        let end = place_at(encoding, text, start, token.to);
         add(
             last.position,
             start.position,

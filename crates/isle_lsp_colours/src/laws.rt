@@ -10,6 +10,7 @@ ghost use Rattle.isle_lsp_colours.specs.Tokens.{IsOnOneLine, tokens_of};
 ghost use Rattle.isle_lsp_colours.specs.declared.classes.Class.{Class};
 ghost use Rattle.isle_lsp_colours.specs.declared.classes.TokenKind.{TokenKind};
 ghost use Rattle.isle_lsp_colours.specs.declared.tokens.Token.{Token};
+ghost use Rattle.isle_lsp_text.specs.declared.positions.PositionEncoding.{PositionEncoding};
 
 /// The number of a type is its index in the legend.
 pub fn numbers_are_indices()
@@ -26,14 +27,15 @@ pub fn in_order()
 /// The numbers of tokens that are in order tell of each where it begins, its length, its type and
 /// its modifiers.
 pub fn numbers_tell()
-    ensures { (text : List ℕ) (size : ℕ) (tokens : List Token) → AreInOrder size 0 tokens
-        → decoded origin (encoded text origin tokens) ≡ map (told text) tokens }
+    ensures { (enc : PositionEncoding) (text : List ℕ) (size : ℕ) (tokens : List Token)
+        → AreInOrder size 0 tokens
+        → decoded origin (encoded enc text origin tokens) ≡ map (told enc text) tokens }
 {}
 
 /// A token of a text is on one line. So its length in the numbers is that of its characters, in
-/// units of UTF-16.
+/// units of the encoding.
 pub fn on_one_line()
-    ensures { (text : List ℕ) (tokens : List Lexeme) (ending : Ending)
+    ensures { (enc : PositionEncoding) (text : List ℕ) (tokens : List Lexeme) (ending : Ending)
         → lexes text tokens ending
-        → AllByRecursion (λ x. IsOnOneLine text x.offset x.after) tokens }
+        → AllByRecursion (λ x. IsOnOneLine enc text x.offset x.after) tokens }
 {}

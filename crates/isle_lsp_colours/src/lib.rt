@@ -20,7 +20,7 @@ mod tokens;
 
 pub use classes::{Class, TokenKind, token_modifiers, token_types};
 use encoding::token_values;
-use isle_lsp_text::positions::{Range, offset_of};
+use isle_lsp_text::positions::{PositionEncoding, Range, offset_of};
 use known::classes_of;
 use serde_json::{Value, json};
 use std::alloc::{AllocError, Global};
@@ -32,31 +32,44 @@ use tokens::{Token, tokens_in};
 /// There are none after a lexical error. An `Err` means out of memory.
 pub fn semantic_tokens(
     alloc: Global,
+    encoding: PositionEncoding,
     text: &str,
     within: Option<Range>,
 ) -> Result<Value, AllocError>
-    ensures tokens { IfOk result (λ value. AreTokens text.now within (view value)) }
+    ensures tokens { IfOk result (λ value. AreTokens encoding text.now within (view value)) }
     ensures shallow { IfOk result (λ value. depth (view value) ≤ 2) }
 {
     let classes = classes_of(alloc, text)?;
-    let tokens = tokens_in(alloc, text, &classes, offsets_of(text, within))?;
-    tokens_value(alloc, text, &tokens)
+    let tokens = tokens_in(alloc, text, &classes, offsets_of(encoding, text, within))?;
+    tokens_value(alloc, encoding, text, &tokens)
 }
 
 /// The byte offsets of the ends of a range, if there is one.
-fn offsets_of(text: &str, within: Option<Range>) -> Option<(usize, usize)>
-    ensures { result ≡ offsets_of text.now within }
+fn offsets_of(
+    encoding: PositionEncoding,
+    text: &str,
+    within: Option<Range>,
+) -> Option<(usize, usize)>
+    ensures { result ≡ offsets_of encoding text.now within }
 {
     match within {
-        Some(range) => Some((offset_of(text, range.start), offset_of(text, range.end))),
+        Some(range) => Some((
+            offset_of(encoding, text, range.start),
+            offset_of(encoding, text, range.end),
+        )),
         None => None,
     }
 }
 
 /// Tokens as JSON.
-fn tokens_value(alloc: Global, text: &str, tokens: &[Token]) -> Result<Value, AllocError>
-    ensures { IfOk result (λ value. view value ≡ tokens_data text.now tokens.now) }
+fn tokens_value(
+    alloc: Global,
+    encoding: PositionEncoding,
+    text: &str,
+    tokens: &[Token],
+) -> Result<Value, AllocError>
+    ensures { IfOk result (λ value. view value ≡ tokens_data encoding text.now tokens.now) }
 {
-    let data = Value::Array(token_values(alloc, text, tokens)?);
+    let data = Value::Array(token_values(alloc, encoding, text, tokens)?);
     json!(in alloc; {"data": data})
 }

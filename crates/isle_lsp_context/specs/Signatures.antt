@@ -4,6 +4,7 @@ use Rattle.isle_base.specs.Lexing.{lexes}
 use Rattle.isle_base.specs.Token.{Ending, Lexeme, Tok, at_sign, integer, lparen, rparen, symbol}
 use Rattle.isle_lsp_text.specs.Lists.{depth_after}
 use Rattle.isle_lsp_text.specs.Positions.{is_inner, units}
+use Rattle.isle_lsp_text.specs.declared.positions.PositionEncoding.TheVariants.{Utf16}
 use Rattle.isle_lsp_text.specs.declared.wholes.Part.{Part}
 use Rattle.serde_json.specs.Data.{Data, array, member, no_members, number, object, string, unsigned}
 use Rattle.serde_json.specs.View.{items_of}
@@ -68,7 +69,7 @@ pub record AreParameters (declaration : List ℕ) (is_variant : Bool) (found : L
 
 -- how many units of UTF-16 a text has before an offset
 abbrev pub units_before : List ℕ → (offset : ℕ) → ℕ
-units_before text offset = units (take offset text)
+units_before text offset = units Utf16 (take offset text)
 
 abbrev pub parameter_data : (label : List ℕ) → Part → Data
 parameter_data label p =

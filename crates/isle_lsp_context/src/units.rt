@@ -2,18 +2,19 @@
 
 ghost use Rattle.std.specs.Prelude.{◌≡◌, take};
 ghost use Rattle.isle_lsp_text.specs.Positions.{units};
+ghost use Rattle.isle_lsp_text.specs.declared.positions.PositionEncoding.TheVariants.{Utf16};
 
-use isle_lsp_text::positions::unit_count;
+use isle_lsp_text::positions::utf16_count;
 
 /// The number of UTF-16 units of the characters that begin before a byte offset of a text, line
 /// ends included. An offset past the end of the text means its end.
 pub fn units_before(text: &str, offset: usize) -> usize
-    ensures { result ≡ units (take offset text.now) }
+    ensures { result ≡ units Utf16 (take offset text.now) }
 {
     let bytes = text.as_bytes();
     let mut units = 0;
     for byte in &bytes[..offset.min(bytes.len())] {
-        units += unit_count(*byte);
+        units += utf16_count(*byte);
     }
     units
 }

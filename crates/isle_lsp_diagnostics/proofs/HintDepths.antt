@@ -11,16 +11,17 @@ use Rattle.isle_lsp_protocol.specs.Results.{markdown}
 use Rattle.isle_lsp_diagnostics.specs.Hints.{AreHints, AreHintsOf, HintNode, are_within, hint_data, hints_data, hints_in}
 use Rattle.isle_lsp_diagnostics.specs.Hovers.{IsTypedHover, IsTypedShown, above, showing, shown_in, with_type}
 use Rattle.isle_lsp_diagnostics.specs.Rules.{first_of}
+use Rattle.isle_lsp_text.specs.declared.positions.PositionEncoding.{PositionEncoding}
 
-hint_depth : (text : List ℕ) (h : HintNode) → depth (hint_data text h) ≤ 3
-hint_depth text h = omega (arith, position_depth (position_at h.offset text))
+hint_depth : (enc : PositionEncoding) (text : List ℕ) (h : HintNode) → depth (hint_data enc text h) ≤ 3
+hint_depth enc text h = omega (arith, position_depth (position_at enc h.offset text))
 
-shown_depth : (text : List ℕ) (range : Range) (hs : List HintNode) → depth (hints_data text range hs) ≤ 4
-shown_depth text range hs = omega (arith, items_shallow 3 _ (map_shallow 3 (hint_data text) (are_within text range hs) (hint_depth text)))
+shown_depth : (enc : PositionEncoding) (text : List ℕ) (range : Range) (hs : List HintNode) → depth (hints_data enc text range hs) ≤ 4
+shown_depth enc text range hs = omega (arith, items_shallow 3 _ (map_shallow 3 (hint_data enc text) (are_within enc text range hs) (hint_depth enc text)))
 
 of_depth : (program : List Text) (f : Option File) (range : Range) (d : Data) → AreHintsOf program f range d → depth d ≤ 4
 of_depth program None range d h = at_most 4 d _ h (omega arith)
-of_depth program (Some f) range d (ds, read, are) = at_most 4 d _ are (shown_depth f.text range (hints_in f ds))
+of_depth program (Some f) range d (ds, read, are) = at_most 4 d _ are (shown_depth f.encoding f.text range (hints_in f ds))
 
 pub hints_depth : (programs : List (List Text)) (file : List ℕ) (range : Range) (d : Data) → AreHints programs file range d → depth d ≤ 4
 hints_depth programs file range d h = of_depth (first_of programs) (file_from 0 file (first_of programs)) range d h

@@ -1,6 +1,7 @@
 pub mod Depths
 pub mod HintDepths
+pub mod Own
 pub mod Readings
-pub mod Refusals
 pub mod Sent
+pub mod Told
 pub mod Tokens

@@ -1,5 +1,5 @@
 -- What the check of programs tells of one of their files.
-use Rattle.std.specs.Prelude.{◌≡◌, ℕ, ◌+◌, ◌-◌, ◌==◌, ◌⊎◌, List, [], ◌∷◌, ◌++◌, Bool, false, Option, None, Some, drop, length, map, max, min, slice_get, string_bytes, if◌then◌else◌}
+use Rattle.std.specs.Prelude.{◌≡◌, ℕ, ◌+◌, ◌-◌, ◌⊎◌, List, [], ◌∷◌, ◌++◌, Bool, false, Option, None, Some, drop, length, map, max, min, slice_get, string_bytes, if◌then◌else◌}
 use Rattle.std.specs.List.{flat_map, list_any, prefix_len}
 use Rattle.std.specs.Str.{bytes_eq}
 use Rattle.isle_base.specs.Spellings.{in_symbol}
@@ -12,7 +12,7 @@ use Rattle.isle_check_core.specs.Findings.{FindingNode, findings, is_error}
 use Rattle.isle_check_messages.specs.Notes.{NoteNode}
 use Rattle.isle_check_messages.specs.Words.{WordsNode}
 use Rattle.isle_program.specs.Nesting.{FirstDeep}
-use Rattle.isle_program.specs.Reading.{IsDeepWith, IsReading, IsRefusedWith, refused_count}
+use Rattle.isle_program.specs.Reading.{IsDeepWith, IsRefusedWith, IsTreeOf}
 use Rattle.isle_lsp_features.specs.Programs.{Text}
 use Rattle.isle_lsp_diagnostics.specs.Marks.{Mark, check, is_same}
 use Rattle.isle_lsp_diagnostics.specs.declared.checks.Told.{Told as CodeTold}
@@ -74,9 +74,9 @@ source_of t = record { name = []; text = t.text }
 abbrev pub sources_of : List Text → List Source
 sources_of program = map source_of program
 
--- what is told of the definitions of a program's reading: if one of its texts has no tree, nothing
-abbrev pub reading_told : List Definition → List (Option Error) → List Told
-reading_told ds refusals = if refused_count refusals == 0 then flat_map all_told (findings ds) else []
+-- a text, as the file of this number, spells this tree, and does not nest too deeply
+abbrev pub HasTree : (number : ℕ) → List ℕ → List Definition → Type 0
+HasTree number text ds = FirstDeep text None × IsTreeOf number text ds
 
 -- a text spells no tree, or nests too deeply, whichever file it is
 pub record IsRefusedText (text : List ℕ) : Type 0 where
@@ -89,17 +89,25 @@ abbrev pub HasRefused : List Source → Type 0
 HasRefused [] = ⊥
 HasRefused (s ∷ ss) = IsRefusedText s.text ⊎ HasRefused ss
 
--- each text has a tree, and this is what the findings of all tell
-pub record AreFound (sources : List Source) (all : List Told) : Type 0 where
-  pub definitions : List Definition
-  pub refusals : List (Option Error)
-  pub read : IsReading sources definitions refusals
-  pub none_refused : refused_count refusals ≡ 0
-  pub are : all ≡ flat_map all_told (findings definitions)
+-- each text has a tree, as the files from this number on, and these are the definitions of all
+abbrev pub AreTrees : (number : ℕ) → List Source → List Definition → Type 0
+AreTrees number [] ds = ds ≡ []
+AreTrees number (s ∷ ss) ds =
+    (own later : List Definition) × HasTree number s.text own × AreTrees (number + 1) ss later × (ds ≡ own ++ later)
 
--- this is what the check of a program of these texts tells: if one of them is refused, nothing
+-- each text has a tree, and this is what the findings tell of these definitions with those of all the texts behind them
+pub record AreFoundAfter (before : List Definition) (number : ℕ) (sources : List Source) (all : List Told) : Type 0 where
+  pub definitions : List Definition
+  pub trees : AreTrees number sources definitions
+  pub are : all ≡ flat_map all_told (findings (before ++ definitions))
+
+-- this is what the check tells of these definitions with the texts behind them: if one of the texts is refused, nothing
+abbrev pub AreToldAfter : (before : List Definition) → (number : ℕ) → (sources : List Source) → (all : List Told) → Type 0
+AreToldAfter before number sources all = AreFoundAfter before number sources all ⊎ (HasRefused sources × (all ≡ []))
+
+-- this is what the check of a program of these texts tells
 abbrev pub AreTold : (sources : List Source) → (all : List Told) → Type 0
-AreTold sources all = AreFound sources all ⊎ (HasRefused sources × (all ≡ []))
+AreTold sources all = AreToldAfter [] 0 sources all
 
 -- a program that is checked: its texts, and what the check tells
 pub record CheckedProgram : Type 0 where

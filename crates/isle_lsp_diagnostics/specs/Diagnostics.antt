@@ -1,5 +1,5 @@
 -- The diagnostics of a text, on its own and in its programs.
-use Rattle.std.specs.Prelude.{◌≡◌, ℕ, ◌+◌, ◌-◌, ◌⊎◌, Bool, true, false, List, [], ◌∷◌, ◌++◌, None, filter, length, map, min, not, codes, string_bytes}
+use Rattle.std.specs.Prelude.{◌≡◌, ℕ, ◌+◌, ◌-◌, ◌⊎◌, Bool, true, false, List, [], ◌∷◌, ◌++◌, filter, length, map, min, not, codes, string_bytes}
 use Rattle.std.specs.List.{flat_map}
 use Rattle.std.specs.List.Sorted.{IsPermutation, IsSortedByKey}
 use Rattle.isle_ast.specs.Tree.{Definition}
@@ -11,13 +11,11 @@ use Rattle.isle_lint_core.specs.Findings.{findings_in}
 use Rattle.isle_lint_core.specs.Lint.{all_lints, is_default}
 use Rattle.isle_lint_core.specs.declared.finding.Finding.{Finding}
 use Rattle.isle_program.specs.Allowances.{Allowance, AreAllowances, is_allowed}
-use Rattle.isle_program.specs.Nesting.{FirstDeep}
-use Rattle.isle_program.specs.Reading.{IsDeepWith, IsRefusedWith, IsTreeOf}
 use Rattle.isle_lsp_features.specs.Pieces.{AreRefusals}
 use Rattle.isle_lsp_features.specs.Programs.{Text}
 use Rattle.isle_lsp_features.specs.declared.pieces.Refusal.{Refusal}
 use Rattle.isle_lsp_features.specs.declared.pieces.Refusal.TheVariants as refused
-use Rattle.isle_lsp_diagnostics.specs.Checked.{AreChecked, all_added}
+use Rattle.isle_lsp_diagnostics.specs.Checked.{AreChecked, HasTree, IsRefusedText, all_added}
 use Rattle.isle_lsp_diagnostics.specs.Marks.{Mark, lint, parser}
 
 -- the diagnostic of a finding, at its name, cut at the end of the text
@@ -45,12 +43,19 @@ pub record AreMarksOf (text : List ℕ) (ds : List Definition) (told : List Mark
   pub allowing : AreAllowances text allowances
   pub marks : told ≡ map (found_mark text) (shown allowances (map finding_of found))
 
--- the marks of a text that spells this tree: of what the check of the programs that have it finds in it, and then of lints
-pub record AreTreeMarks (programs : List (List Text)) (file text : List ℕ) (ds : List Definition) (marks : List Mark) : Type 0 where
+-- the marks of what lints find in the tree of a text, as the file of any number: marks have no file, and one text has one tree but for it
+pub record AreLintMarks (text : List ℕ) (marks : List Mark) : Type 0 where
+  pub number : ℕ
+  pub definitions : List Definition
+  pub tree : HasTree number text definitions
+  pub are : AreMarksOf text definitions marks
+
+-- the marks of a text that spells a tree: of what the check of the programs that have it finds in it, and then of lints
+pub record AreTreeMarks (programs : List (List Text)) (file text : List ℕ) (marks : List Mark) : Type 0 where
   pub checks : List Mark
   pub lints : List Mark
   pub checked : AreChecked programs file text [] checks
-  pub linted : AreMarksOf text ds lints
+  pub linted : AreLintMarks text lints
   pub are : marks ≡ checks ++ lints
 
 -- the diagnostic of a text that nests too deeply, at the first token that does
@@ -73,27 +78,11 @@ refusal_marks text (refused.Deep offset) = deep_mark text offset ∷ []
 abbrev pub AreRefusedMarks : List ℕ → List Mark → Type 0
 AreRefusedMarks text marks = (rs : List Refusal) × AreRefusals text rs × (marks ≡ all_added [] (flat_map (refusal_marks text) rs))
 
--- a text spells no tree, or nests too deeply
-abbrev pub IsRefused : List ℕ → Type 0
-IsRefused text = (e : errors.Error) × ((FirstDeep text None × IsRefusedWith 0 text e) ⊎ IsDeepWith 0 text e)
-
--- the marks of what lints find in the tree of a text
-abbrev pub AreLintMarks : List ℕ → List Mark → Type 0
-AreLintMarks text marks = FirstDeep text None × ((ds : List Definition) × IsTreeOf 0 text ds × AreMarksOf text ds marks)
-
 -- the marks of a text by itself: of why it is refused, if it is, or else of what lints find
 abbrev pub AreOwnMarks : List ℕ → (is_refused : Bool) → List Mark → Type 0
-AreOwnMarks text true marks = IsRefused text × AreRefusedMarks text marks
+AreOwnMarks text true marks = IsRefusedText text × AreRefusedMarks text marks
 AreOwnMarks text false marks = AreLintMarks text marks
-
--- what is found in a text by itself
-pub record OwnMarks : Type 0 where
-  pub text : List ℕ
-  pub is_refused : Bool
-  pub marks : List Mark
 
 -- the marks of any text, which is this file of the programs: of its tree, or why its pieces are refused
 abbrev pub AreMarks : (programs : List (List Text)) → (file text : List ℕ) → List Mark → Type 0
-AreMarks programs file text marks =
-    (FirstDeep text None × ((ds : List Definition) × IsTreeOf 0 text ds × AreTreeMarks programs file text ds marks))
-    ⊎ (IsRefused text × AreRefusedMarks text marks)
+AreMarks programs file text marks = AreTreeMarks programs file text marks ⊎ (IsRefusedText text × AreRefusedMarks text marks)

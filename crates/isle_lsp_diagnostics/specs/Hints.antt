@@ -17,6 +17,7 @@ use Rattle.isle_lsp_text.specs.Positions.{offset_at, position_at}
 use Rattle.isle_lsp_text.specs.declared.positions.Range.{Range}
 use Rattle.isle_lsp_diagnostics.specs.Rules.{AreDefinitions, first_of, typed_rules, variables}
 use Rattle.isle_lsp_diagnostics.specs.declared.hints.Hint.{Hint}
+use Rattle.isle_lsp_text.specs.declared.positions.PositionEncoding.{PositionEncoding}
 
 -- ---- mentions
 
@@ -72,21 +73,21 @@ hints_in f ds = rules_hints f.text (environment ds) (typed_rules f ds)
 abbrev pub is_between : (from to : ℕ) → HintNode → Bool
 is_between from to h = nat_le from h.offset && nat_le h.offset to
 
-abbrev pub are_within : List ℕ → Range → List HintNode → List HintNode
-are_within text range hs = filter (is_between (offset_at range.start text) (offset_at range.end text)) hs
+abbrev pub are_within : PositionEncoding → List ℕ → Range → List HintNode → List HintNode
+are_within enc text range hs = filter (is_between (offset_at enc range.start text) (offset_at enc range.end text)) hs
 
-abbrev pub hint_data : List ℕ → HintNode → Data
-hint_data text h = inlay_hint (position_at h.offset text) (codes ": " ++ h.ty)
+abbrev pub hint_data : PositionEncoding → List ℕ → HintNode → Data
+hint_data enc text h = inlay_hint (position_at enc h.offset text) (codes ": " ++ h.ty)
 
 -- the hints that lie within a range of a text
-abbrev pub hints_data : List ℕ → Range → List HintNode → Data
-hints_data text range hs = array (items_of (map (hint_data text) (are_within text range hs)))
+abbrev pub hints_data : PositionEncoding → List ℕ → Range → List HintNode → Data
+hints_data enc text range hs = array (items_of (map (hint_data enc text) (are_within enc text range hs)))
 
 -- the hints in a range of a file of a program; without the file there are none
 abbrev pub AreHintsOf : List Text → Option File → Range → Data → Type 0
 AreHintsOf program None range d = d ≡ array no_items
 AreHintsOf program (Some f) range d =
-    (ds : List Definition) × AreDefinitions program ds × (d ≡ hints_data f.text range (hints_in f ds))
+    (ds : List Definition) × AreDefinitions program ds × (d ≡ hints_data f.encoding f.text range (hints_in f ds))
 
 -- the hints in a range of a file, from the first of the programs that have it
 abbrev pub AreHints : List (List Text) → (file : List ℕ) → Range → Data → Type 0

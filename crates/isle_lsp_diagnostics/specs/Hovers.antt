@@ -114,7 +114,7 @@ IsTypeWhere program f offset ty =
 -- that at a position in a file of a program; without the file there is none
 abbrev pub IsTypeIn : List Text → Option File → Position → Option (List ℕ) → Type 0
 IsTypeIn program None position ty = ty ≡ None
-IsTypeIn program (Some f) position ty = IsTypeWhere program f (offset_at position f.text) ty
+IsTypeIn program (Some f) position ty = IsTypeWhere program f (offset_at f.encoding position f.text) ty
 
 -- that at a position in a file, from the first of the programs that have it
 abbrev pub IsTypeAt : List (List Text) → (file : List ℕ) → Position → Option (List ℕ) → Type 0

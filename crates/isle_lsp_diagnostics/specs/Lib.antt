@@ -1,4 +1,5 @@
 pub mod Checked
+pub mod Known
 pub mod Marks
 pub mod Diagnostics
 pub mod Published

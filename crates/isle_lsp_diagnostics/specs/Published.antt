@@ -11,10 +11,11 @@ use Rattle.isle_lsp_features.specs.Programs.{Text}
 use Rattle.isle_lsp_protocol.specs.Results.{checked_data, error_data, warning_data}
 use Rattle.isle_lsp_text.specs.Positions.{position_at}
 use Rattle.isle_lsp_text.specs.declared.positions.Range.{Range}
+use Rattle.isle_lsp_text.specs.declared.positions.PositionEncoding.{PositionEncoding}
 
 -- the range between two offsets
-abbrev pub range_of : List ℕ → (start end : ℕ) → Range
-range_of text start end = record { start = position_at start text; end = position_at end text }
+abbrev pub range_of : PositionEncoding → List ℕ → (start end : ℕ) → Range
+range_of enc text start end = record { start = position_at enc start text; end = position_at enc end text }
 
 abbrev pub diagnostic_data_at : Range → Finder → List ℕ → Data
 diagnostic_data_at range parser message = error_data range message
@@ -22,16 +23,16 @@ diagnostic_data_at range (lint it) message = warning_data range (name it) messag
 diagnostic_data_at range (check is_error kind) message = checked_data range is_error kind message
 
 -- a diagnostic, at its range
-abbrev pub mark_data : List ℕ → Mark → Data
-mark_data text m = diagnostic_data_at (range_of text m.start m.end) m.finder m.message
+abbrev pub mark_data : PositionEncoding → List ℕ → Mark → Data
+mark_data enc text m = diagnostic_data_at (range_of enc text m.start m.end) m.finder m.message
 
-abbrev pub diagnostics_data : List ℕ → List Mark → Data
-diagnostics_data text marks = array (items_of (map (mark_data text) marks))
+abbrev pub diagnostics_data : PositionEncoding → List ℕ → List Mark → Data
+diagnostics_data enc text marks = array (items_of (map (mark_data enc text) marks))
 
 -- the diagnostics of a text, which is this file of the programs; without a text there are none
-abbrev pub AreDiagnostics : (programs : List (List Text)) → (file : List ℕ) → Option (List ℕ) → Data → Type 0
-AreDiagnostics programs file None d = d ≡ array no_items
-AreDiagnostics programs file (Some text) d = (marks : List Mark) × AreMarks programs file text marks × (d ≡ diagnostics_data text marks)
+abbrev pub AreDiagnostics : PositionEncoding → (programs : List (List Text)) → (file : List ℕ) → Option (List ℕ) → Data → Type 0
+AreDiagnostics enc programs file None d = d ≡ array no_items
+AreDiagnostics enc programs file (Some text) d = (marks : List Mark) × AreMarks programs file text marks × (d ≡ diagnostics_data enc text marks)
 
 -- the version of a document, if it is known
 abbrev pub version_member : Option ℤ → Members
@@ -48,5 +49,5 @@ publishing uri version diagnostics =
     (member (codes "params") (parameters_data uri version diagnostics) no_members)))
 
 -- the notification for a document, which is this file of the programs, with its version, if that is known, and its text, or for one that is not open
-abbrev pub IsPublished : (uri : List ℕ) → (version : Option ℤ) → (programs : List (List Text)) → (file : List ℕ) → Option (List ℕ) → List ℕ → Type 0
-IsPublished uri version programs file text sent = (d : Data) × AreDiagnostics programs file text d × (read sent ≡ Some (publishing uri version d))
+abbrev pub IsPublished : PositionEncoding → (uri : List ℕ) → (version : Option ℤ) → (programs : List (List Text)) → (file : List ℕ) → Option (List ℕ) → List ℕ → Type 0
+IsPublished enc uri version programs file text sent = (d : Data) × AreDiagnostics enc programs file text d × (read sent ≡ Some (publishing uri version d))

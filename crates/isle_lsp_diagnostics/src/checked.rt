@@ -50,7 +50,7 @@ fn program_diagnostics(
 {
     let checked = checks.take(alloc, program)?;
     let found = finding_diagnostics(alloc, program, file, text, checked.all())?;
-    checks.put(checked)?;
+    checks.programs.put(checked)?;
     Ok(found)
 }
 

@@ -1,28 +1,27 @@
-//! What is found in programs, and in texts by themselves, kept from one message to the next.
+//! What is found in programs, and what is known of texts, kept from one message to the next.
 
-ghost use Rattle.std.specs.Prelude.{◌≡◌, ◌++◌, IfErr, IfOk, IfSome, OnOk, false, map};
-ghost use Rattle.std.specs.Prelude.{true};
+ghost use Rattle.std.specs.Prelude.{◌≡◌, ◌+◌, ◌^◌, ◌<◌, ◌++◌, IfErr, IfOk, OnOk, false, length};
+ghost use Rattle.std.specs.Prelude.{map, true};
 ghost use Rattle.std.specs.List.{flat_map};
 ghost use Rattle.isle_ast.specs.MacroArgs.{definitions_have_macro_arg};
-ghost use Rattle.isle_ast.specs.TreeView.{definitions_of};
 ghost use Rattle.isle_check_core.specs.Views.{finding_of, findings_of};
 ghost use Rattle.isle_check_messages.specs.Notes.{notes_of};
 ghost use Rattle.isle_cli.specs.Sources.{source_of};
 ghost use Rattle.isle_cli.specs.declared.failure.Failure.TheVariants.{Memory};
 ghost use Rattle.isle_lsp_features.specs.Programs.{text_of};
 ghost use Rattle.isle_lsp_diagnostics.specs.Checked as wanted;
-ghost use Rattle.isle_lsp_diagnostics.specs.Checked.{AreTold, told_of};
+ghost use Rattle.isle_lsp_diagnostics.specs.Checked.{AreTold, AreToldAfter, told_of};
+ghost use Rattle.isle_lsp_diagnostics.specs.Known.{tree_of};
 
-use crate::own::KeptTexts;
+use crate::kept::{About, Kept};
+use crate::texts::{Known, Place, Tree, refuses_one, take_known};
 use isle_base::lexer::Pos;
 use isle_check_core::{Finding, Note, check};
 use isle_cli::failure::Failure;
 use isle_cli::sources::Source;
 use isle_lsp_features::Text;
-use isle_program::trees::{Reading, drop_reading, read_all, refused_count};
 use std::alloc::{AllocError, Global};
 use std::marker::Model;
-use std::mem;
 
 /// What a finding tells, or one of its notes.
 #[derive(Drop)]
@@ -68,78 +67,113 @@ impl Checked {
     {
         &self.all
     }
+}
 
-    /// Returns whether the texts are those of a program.
-    fn is_of(&self, program: &[Text]) -> bool
-        ensures { result ≡ true
-            → AreTold (wanted.sources_of (map text_of program.now)) self.now.all }
-    {
+/// The findings of a program with these texts are wanted.
+impl About<&[Text<'_>]> for Checked {
+    ghost is_about = { λ checked program.
+        AreTold (wanted.sources_of (map text_of program.now)) checked.all };
+
+    fn is_about(&self, program: &[Text]) -> bool {
         are_sources(&self.sources, program)
     }
 }
 
-/// The programs that are checked, and the texts that are parsed and linted by themselves. What is
-/// kept of a program with the same texts, or of an equal text, is not looked for again.
+/// The programs that are checked, and what is known of texts. What is kept of a program with the
+/// same texts is not looked for again, and a text that is kept is not parsed again.
 #[derive(Drop)]
 pub struct Checks {
-    /// What is found in texts by themselves.
-    pub(crate) texts: KeptTexts,
-    /// The programs that are needed for the message that is handled.
-    current: Vec<Checked>,
-    /// The programs that were needed for the message before.
-    last: Vec<Checked>,
+    /// What is known of texts.
+    pub(crate) texts: Kept<Known>,
+    /// The programs that are checked.
+    pub(crate) programs: Kept<Checked>,
 }
 
 impl Checks {
     /// No program is checked, and no text is parsed.
     pub fn new(alloc: Global) -> Checks {
         Checks {
-            texts: KeptTexts::new(alloc),
-            current: Vec::new(alloc),
-            last: Vec::new(alloc),
+            texts: Kept::new(alloc),
+            programs: Kept::new(alloc),
         }
     }
 
     /// Begins to handle another message: of programs and texts, those are kept that it needs too.
     pub fn renew(&mut self, alloc: Global) {
         self.texts.renew(alloc);
-        self.last = mem::replace(&mut self.current, Vec::new(alloc));
+        self.programs.renew(alloc);
     }
 
-    /// Takes out a program, which is checked now if none of the same texts is kept. The only error
-    /// is `Memory`.
+    /// Keeps what is known of the texts of these programs, which the message that is handled needs.
+    pub fn keep(&mut self, programs: &[Vec<Text>]) -> Result<(), AllocError> {
+        for program in programs {
+            for (number, text) in program.iter().enumerate() {
+                let file = text.file;
+                if let Some(known) = self.texts.take(Place { number, file }) {
+                    self.texts.put(known)?;
+                }
+            }
+        }
+        Ok(())
+    }
+
+    /// Takes out a program, which is checked now if none of the same texts is kept. Nothing is
+    /// found in it if one of its texts is refused, and no text is parsed if one is known to be. The
+    /// only error is `Memory`.
     pub fn take(&mut self, alloc: Global, program: &[Text]) -> Result<Checked, Failure>
         ensures ok { IfOk result (λ checked.
             AreTold (wanted.sources_of (map text_of program.now)) checked.all) }
         ensures err { IfErr result (λ failure. failure ≡ Memory) }
     {
-        if let Some(checked) = take_from(&mut self.current, program) {
+        if let Some(checked) = self.programs.take(program) {
             return Ok(checked);
         }
-        if let Some(checked) = take_from(&mut self.last, program) {
-            return Ok(checked);
+        let mut all = Vec::new(alloc);
+        if !refuses_one(&mut self.texts, program)? {
+            let mut before = Tree {
+                defs: Vec::new(alloc),
+            };
+            all = told_after(alloc, &mut self.texts, &mut before, 0, program)?;
         }
-        check_program(alloc, &self.texts, program)
-    }
-
-    /// Puts a program back that is needed for the message that is handled.
-    pub fn put(&mut self, checked: Checked) -> Result<(), AllocError> {
-        self.current.push(checked)?;
-        Ok(())
+        let sources = sources_of(alloc, program)?;
+        Ok(Checked { sources, all })
     }
 }
 
-/// Takes a program with these texts out of a list, if there is one.
-fn take_from(list: &mut Vec<Checked>, program: &[Text]) -> Option<Checked>
-    ensures { IfSome result (λ checked.
-        AreTold (wanted.sources_of (map text_of program.now)) checked.all) }
+/// What the check tells of a program that begins with these definitions, and has these texts behind
+/// them, the first of which is the file of this number. Each tree joins the definitions, and is put
+/// back after the check. The only error is `Memory`.
+fn told_after(
+    alloc: Global,
+    texts: &mut Kept<Known>,
+    before: &mut Tree,
+    number: usize,
+    program: &[Text],
+) -> Result<Vec<Told>, Failure>
+    requires plain { definitions_have_macro_arg (tree_of before.old) ≡ false }
+    requires few { number + length program.now < 2 ^ 64 }
+    ensures ok { IfOk result (λ all. AreToldAfter (tree_of before.old) number
+        (wanted.sources_of (map text_of program.now)) (map told_of all.items)) }
+    ensures before { OnOk result (before.new.defs.items ≡ before.old.defs.items) }
+    ensures err { IfErr result (λ failure. failure ≡ Memory) }
 {
-    for at in 0..list.len() {
-        if list[at].is_of(program) {
-            return Some(list.remove(at));
-        }
-    }
-    None
+    let [text, more @ ..] = program else {
+        return Ok(all_told(alloc, &check(alloc, &before.defs)?)?);
+    };
+    let file = text.file;
+    let mut known = take_known(alloc, texts, Place { number, file }, text.text)?;
+    let Some(mut tree) = known.take_tree(alloc)? else {
+        texts.put(known)?;
+        return Ok(Vec::new(alloc));
+    };
+    let start = before.defs.len();
+    before.defs.append(&mut tree.defs)?;
+    drop(tree);
+    let all = told_after(alloc, texts, before, number + 1, more)?;
+    let defs = before.defs.split_off(start)?;
+    known.put_tree(Tree { defs });
+    texts.put(known)?;
+    Ok(all)
 }
 
 /// Returns whether these are the texts of a program, without names.
@@ -163,38 +197,6 @@ fn is_source(source: &Source, text: &Text) -> bool
     source.name.as_str() == "" && source.text.as_str() == text.text
 }
 
-/// Checks a program. Nothing is found in it if one of its texts does not parse. The only error is
-/// `Memory`.
-fn check_program(alloc: Global, texts: &KeptTexts, program: &[Text]) -> Result<Checked, Failure>
-    ensures ok { IfOk result (λ checked.
-        AreTold (wanted.sources_of (map text_of program.now)) checked.all) }
-    ensures err { IfErr result (λ failure. failure ≡ Memory) }
-{
-    let sources = sources_of(alloc, program)?;
-    let all = told_of_sources(alloc, texts, &sources)?;
-    Ok(Checked { sources, all })
-}
-
-/// What the check tells of a program of these texts. No text is parsed if one is known to be
-/// refused. The only error is `Memory`.
-fn told_of_sources(
-    alloc: Global,
-    texts: &KeptTexts,
-    sources: &[Source],
-) -> Result<Vec<Told>, Failure>
-    ensures ok { IfOk result (λ all. AreTold (map source_of sources.now)
-        (map told_of all.items)) }
-    ensures err { IfErr result (λ failure. failure ≡ Memory) }
-{
-    if texts.refuses_one(sources) {
-        return Ok(Vec::new(alloc));
-    }
-    let reading = read_all(alloc, sources)?;
-    let all = told_of_reading(alloc, &reading);
-    drop_reading(reading);
-    Ok(all?)
-}
-
 /// The texts of a program, without names.
 pub fn sources_of(alloc: Global, program: &[Text]) -> Result<Vec<Source>, AllocError>
     ensures { IfOk result (λ sources. map source_of sources.items
@@ -208,19 +210,6 @@ pub fn sources_of(alloc: Global, program: &[Text]) -> Result<Vec<Source>, AllocE
         })?;
     }
     Ok(sources)
-}
-
-/// What the check tells of a program that is parsed.
-fn told_of_reading(alloc: Global, reading: &Reading) -> Result<Vec<Told>, AllocError>
-    requires { definitions_have_macro_arg (definitions_of reading.now.defs.items) ≡ false }
-    ensures { IfOk result (λ all. map told_of all.items ≡ wanted.reading_told
-        (definitions_of reading.now.defs.items) reading.now.refusals.items) }
-{
-    if refused_count(&reading.refusals) != 0 {
-        return Ok(Vec::new(alloc));
-    }
-    let found = check(alloc, &reading.defs)?;
-    all_told(alloc, &found)
 }
 
 /// What findings and their notes tell.

@@ -4,7 +4,7 @@
 //!
 //! Lints see this text alone: of two rules with one name, in two files, none is found.
 
-ghost use Rattle.std.specs.Prelude.{◌≡◌, ◌++◌, ◌∷◌, [], IfErr, IfOk, OnOk, filter, length, map};
+ghost use Rattle.std.specs.Prelude.{◌≡◌, ◌∷◌, [], IfErr, IfOk, filter, length, map};
 ghost use Rattle.std.specs.List.{flat_map};
 ghost use Rattle.isle_ast.specs.TreeView.{definitions_of};
 ghost use Rattle.isle_base_source.specs.declared.error.Error as errors;
@@ -19,13 +19,15 @@ ghost use Rattle.isle_lsp_diagnostics.specs.Marks.{mark_of};
 
 use crate::checked::{add_each_once, check_diagnostics};
 use crate::checks::Checks;
-use crate::own::OwnDiagnostics;
+use crate::rules::first_of;
+use crate::texts::{Place, own_diagnostics};
 use isle_ast::ast::Def;
 use isle_base_source::error::Error;
 use isle_cli::failure::Failure;
 use isle_lint_core::{Finding, Lint, findings};
 use isle_lsp_features::Text;
 use isle_lsp_features::pieces::{Refusal, refusals};
+use isle_lsp_features::places::file_of;
 use isle_program::allowances::Allowances;
 use std::alloc::{AllocError, Global};
 
@@ -76,30 +78,19 @@ pub fn diagnostics(
         file.now text.now (map mark_of found.items)) }
     ensures err { IfErr result (λ failure. failure ≡ Memory) }
 {
-    let own = checks.texts.take(alloc, text)?;
-    let found = all_diagnostics(alloc, checks, programs, file, &own)?;
-    checks.texts.put(own)?;
-    Ok(found)
-}
-
-/// The diagnostics of a text, from what is found in it by itself. What its programs tell stands
-/// before what lints find.
-fn all_diagnostics(
-    alloc: Global,
-    checks: &mut Checks,
-    programs: &[Vec<Text>],
-    file: &str,
-    own: &OwnDiagnostics,
-) -> Result<Vec<Diagnostic>, Failure>
-    ensures ok { IfOk result (λ found. AreMarks (map (λ p. map text_of p.items) programs.now)
-        file.now own.now.text (map mark_of found.items)) }
-    ensures err { IfErr result (λ failure. failure ≡ Memory) }
-{
-    let mut found = Vec::new(alloc);
-    if !own.is_refused() {
-        found = check_diagnostics(alloc, checks, programs, file, own.text())?;
+    checks.keep(programs)?;
+    let number = match file_of(first_of(programs), file) {
+        Some(found) => found.number,
+        None => 0,
+    };
+    let place = Place { number, file };
+    let own = own_diagnostics(alloc, &mut checks.texts, place, text, programs.is_empty())?;
+    if own.are_refusals {
+        return Ok(own.found);
     }
-    add_copies(own.found(), &mut found)?;
+    let mut found = check_diagnostics(alloc, checks, programs, file, text)?;
+    let mut lints = own.found;
+    found.append(&mut lints)?;
     Ok(found)
 }
 
@@ -164,15 +155,15 @@ fn deep_diagnostics(alloc: Global, text: &str, offset: usize) -> Result<Vec<Diag
     Ok(diagnostics)
 }
 
-/// Adds copies of diagnostics to others.
-fn add_copies(more: &[Diagnostic], diagnostics: &mut Vec<Diagnostic>) -> Result<(), AllocError>
-    ensures { OnOk result (map mark_of diagnostics.new.items
-        ≡ map mark_of diagnostics.old.items ++ map mark_of more.now) }
+/// Copies of diagnostics.
+pub fn copies_of(alloc: Global, diagnostics: &[Diagnostic]) -> Result<Vec<Diagnostic>, AllocError>
+    ensures { IfOk result (λ copies. map mark_of copies.items ≡ map mark_of diagnostics.now) }
 {
-    for diagnostic in more {
-        diagnostics.push(copy_of(diagnostic)?)?;
+    let mut copies = Vec::new(alloc);
+    for diagnostic in diagnostics {
+        copies.push(copy_of(diagnostic)?)?;
     }
-    Ok(())
+    Ok(copies)
 }
 
 /// A copy of a diagnostic.

@@ -27,7 +27,7 @@ use isle_cli::failure::Failure;
 use isle_lsp_features::Text;
 use isle_lsp_features::places::{File, file_of};
 use isle_lsp_protocol::items::Item;
-use isle_lsp_text::positions::{Range, START, offset_of, place_at};
+use isle_lsp_text::positions::{PositionEncoding, Range, START, offset_of, place_at};
 use isle_program::trees::drop_reading;
 use std::alloc::{AllocError, Global};
 
@@ -90,13 +90,14 @@ fn items_in<'a>(
 ) -> Result<Vec<Item<'a>>, AllocError>
     requires { definitions_have_macro_arg (definitions_of defs.now) ≡ false }
     ensures { IfOk result (λ items. items_data items.items
-        ≡ wanted.hints_data file.entry.text.now range
+        ≡ wanted.hints_data file.entry.encoding file.entry.text.now range
         (wanted.hints_in (places.file_of file.entry) (definitions_of defs.now))) }
 {
     let env = Environment::new(alloc, defs)?;
     let rules = typed_rules(alloc, &env, file, defs)?;
     let hints = rules_hints(alloc, file.text, &env, &rules)?;
-    items(alloc, file.text, &within(alloc, file.text, range, &hints)?)
+    let found = within(alloc, file.encoding, file.text, range, &hints)?;
+    items(alloc, file.encoding, file.text, &found)
 }
 
 /// The hints of these rules of a text.
@@ -176,15 +177,16 @@ fn end_of(text: &str, name: &Ident) -> usize
 /// The hints that lie within a range of a text.
 fn within<'e>(
     alloc: Global,
+    encoding: PositionEncoding,
     text: &str,
     range: Range,
     hints: &[Hint<'e>],
 ) -> Result<Vec<Hint<'e>>, AllocError>
     ensures { IfOk result (λ found. map hint_of found.items
-        ≡ wanted.are_within text.now range (map hint_of hints.now)) }
+        ≡ wanted.are_within encoding text.now range (map hint_of hints.now)) }
 {
-    let from = offset_of(text, range.start);
-    let to = offset_of(text, range.end);
+    let from = offset_of(encoding, text, range.start);
+    let to = offset_of(encoding, text, range.end);
     let mut found = Vec::new(alloc);
     for hint in hints {
         if from <= hint.offset && hint.offset <= to {
@@ -195,14 +197,19 @@ fn within<'e>(
 }
 
 /// Hints in a text as items.
-fn items<'a>(alloc: Global, text: &str, hints: &[Hint]) -> Result<Vec<Item<'a>>, AllocError>
+fn items<'a>(
+    alloc: Global,
+    encoding: PositionEncoding,
+    text: &str,
+    hints: &[Hint],
+) -> Result<Vec<Item<'a>>, AllocError>
     ensures { IfOk result (λ items. map item_data items.items
-        ≡ map (wanted.hint_data text.now) (map hint_of hints.now)) }
+        ≡ map (wanted.hint_data encoding text.now) (map hint_of hints.now)) }
 {
     let mut near = START;
     let mut items = Vec::new(alloc);
     for hint in hints {
-        near = place_at(text, near, hint.offset);
+        near = place_at(encoding, text, near, hint.offset);
         items.push(Item::InlayHint {
             position: near.position,
             label: label_of(alloc, hint.ty)?,

@@ -164,7 +164,12 @@ fn type_of_file(
         (Some (places.file_of file.entry)) position (option_map string_bytes ty)) }
     ensures err { IfErr result (λ failure. failure ≡ Memory) }
 {
-    type_where(alloc, program, file, offset_of(file.text, position))
+    type_where(
+        alloc,
+        program,
+        file,
+        offset_of(file.encoding, file.text, position),
+    )
 }
 
 /// The typed variable at an offset of a file. Elsewhere than in patterns and expressions there is

@@ -8,10 +8,11 @@ mod checks;
 mod diagnostics;
 mod hints;
 mod hovers;
+mod kept;
 mod mentions;
-mod own;
 mod published;
 mod rules;
+mod texts;
 
 pub use checks::Checks;
 pub use hints::inlay_hints;

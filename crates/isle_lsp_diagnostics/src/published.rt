@@ -21,7 +21,7 @@ use crate::diagnostics::{Diagnostic, Finder, diagnostics};
 use isle_cli::failure::Failure;
 use isle_lsp_features::Text;
 use isle_lsp_protocol::writing::{into_text, put_checked, put_error, put_text, put_warning};
-use isle_lsp_text::positions::{Place, Range, START, place_at};
+use isle_lsp_text::positions::{Place, PositionEncoding, Range, START, place_at};
 use json::Writer;
 use std::alloc::{AllocError, Global};
 
@@ -30,6 +30,7 @@ use std::alloc::{AllocError, Global};
 /// is `Memory`.
 pub fn publish_diagnostics(
     alloc: Global,
+    encoding: PositionEncoding,
     checks: &mut Checks,
     uri: &str,
     version: Option<i64>,
@@ -37,7 +38,7 @@ pub fn publish_diagnostics(
     file: &str,
     text: Option<&str>,
 ) -> Result<String, Failure>
-    ensures ok { IfOk result (λ sent. IsPublished uri.now version
+    ensures ok { IfOk result (λ sent. IsPublished encoding uri.now version
         (map (λ p. map text_of p.items) programs.now) file.now
         (option_map (λ t. t.now) text.entry) (string_bytes sent)) }
     ensures err { IfErr result (λ failure. failure ≡ Memory) }
@@ -45,29 +46,31 @@ pub fn publish_diagnostics(
     match text {
         Some(text) => {
             let found = diagnostics(alloc, checks, programs, file, text)?;
-            Ok(notification(alloc, uri, version, text, &found)?)
+            Ok(notification(alloc, encoding, uri, version, text, &found)?)
         }
-        None => Ok(notification(alloc, uri, version, "", &[])?),
+        None => Ok(notification(alloc, encoding, uri, version, "", &[])?),
     }
 }
 
 /// The text of the notification with these diagnostics.
 fn notification(
     alloc: Global,
+    encoding: PositionEncoding,
     uri: &str,
     version: Option<i64>,
     text: &str,
     diagnostics: &[Diagnostic],
 ) -> Result<String, AllocError>
     ensures { IfOk result (λ sent. read (string_bytes sent) ≡ Some (publishing uri.now version
-        (diagnostics_data text.now (map mark_of diagnostics.now)))) }
+        (diagnostics_data encoding text.now (map mark_of diagnostics.now)))) }
 {
     let mut out = Writer::new(Vec::new(alloc));
-    put_notification(&mut out, uri, version, text, diagnostics)?;
+    put_notification(encoding, &mut out, uri, version, text, diagnostics)?;
     Ok(into_text(out))
 }
 
 fn put_notification(
+    encoding: PositionEncoding,
     out: &mut Writer,
     uri: &str,
     version: Option<i64>,
@@ -77,18 +80,19 @@ fn put_notification(
     ensures before { out.new.before ≡ out.old.before }
     ensures tokens { OnOk result (out.new.tokens ≡ out.old.tokens
         ++ json_tokens (outline (publishing uri.now version
-        (diagnostics_data text.now (map mark_of diagnostics.now))))) }
+        (diagnostics_data encoding text.now (map mark_of diagnostics.now))))) }
     ensures reads { OnOk result (VersionReads version) }
 {
     out.begin_object()?;
     put_text(out, "jsonrpc", "2.0")?;
     put_text(out, "method", "textDocument/publishDiagnostics")?;
-    put_parameters(out, uri, version, text, diagnostics)?;
+    put_parameters(encoding, out, uri, version, text, diagnostics)?;
     out.end_object()
 }
 
 /// Writes the member `params`.
 fn put_parameters(
+    encoding: PositionEncoding,
     out: &mut Writer,
     uri: &str,
     version: Option<i64>,
@@ -98,12 +102,12 @@ fn put_parameters(
     ensures before { out.new.before ≡ out.old.before }
     ensures tokens { OnOk result (out.new.tokens ≡ out.old.tokens
         ++ key (codes "params") ∷ json_tokens (outline (parameters_data uri.now version
-        (diagnostics_data text.now (map mark_of diagnostics.now))))) }
+        (diagnostics_data encoding text.now (map mark_of diagnostics.now))))) }
     ensures reads { OnOk result (VersionReads version) }
 {
     out.key("params")?;
     out.begin_object()?;
-    put_diagnostics(out, text, diagnostics)?;
+    put_diagnostics(encoding, out, text, diagnostics)?;
     put_text(out, "uri", uri)?;
     end_version(out, version)
 }
@@ -135,6 +139,7 @@ fn end_known_version(out: &mut Writer, version: i64) -> Result<(), AllocError>
 
 /// Writes the member `diagnostics`, with each diagnostic at its range.
 fn put_diagnostics(
+    encoding: PositionEncoding,
     out: &mut Writer,
     text: &str,
     diagnostics: &[Diagnostic],
@@ -142,32 +147,33 @@ fn put_diagnostics(
     ensures before { out.new.before ≡ out.old.before }
     ensures tokens { OnOk result (out.new.tokens ≡ out.old.tokens
         ++ key (codes "diagnostics") ∷ json_tokens (outline
-        (diagnostics_data text.now (map mark_of diagnostics.now)))) }
+        (diagnostics_data encoding text.now (map mark_of diagnostics.now)))) }
 {
     out.key("diagnostics")?;
     out.begin_array()?;
     let mut place = START;
     for diagnostic in diagnostics {
-        place = put_diagnostic(out, text, diagnostic, place)?;
+        place = put_diagnostic(encoding, out, text, diagnostic, place)?;
     }
     out.end_array()
 }
 
 /// Writes a diagnostic at its range, and returns the place where the range begins.
 fn put_diagnostic(
+    encoding: PositionEncoding,
     out: &mut Writer,
     text: &str,
     diagnostic: &Diagnostic,
     nearby: Place,
 ) -> Result<Place, AllocError>
-    requires { IsPlace text.now nearby }
+    requires { IsPlace encoding text.now nearby }
     ensures before { out.new.before ≡ out.old.before }
     ensures tokens { OnOk result (out.new.tokens ≡ out.old.tokens
-        ++ json_tokens (outline (mark_data text.now (mark_of diagnostic.now)))) }
-    ensures place { IfOk result (IsPlace text.now) }
+        ++ json_tokens (outline (mark_data encoding text.now (mark_of diagnostic.now)))) }
+    ensures place { IfOk result (IsPlace encoding text.now) }
 {
-    let start = place_at(text, nearby, diagnostic.start);
-    let end = place_at(text, start, diagnostic.end);
+    let start = place_at(encoding, text, nearby, diagnostic.start);
+    let end = place_at(encoding, text, start, diagnostic.end);
     let range = Range {
         start: start.position,
         end: end.position,

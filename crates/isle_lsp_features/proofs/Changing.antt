@@ -3,6 +3,7 @@ use Rattle.std.proofs.Common.{◌≡◌, ◌≢◌, ℕ, ◌+◌, ◌<◌, List,
 use Rattle.std.specs.List.{flat_map}
 use Rattle.serde_json.specs.Data.{Members, no_members}
 use Rattle.isle_base_source.specs.declared.pos.Pos.{Pos}
+use Rattle.isle_index.specs.Renaming.{Part}
 use Rattle.isle_resolve.specs.Names.{NameNode}
 use Rattle.isle_lsp_protocol.specs.Items as lists
 use Rattle.isle_lsp_protocol.specs.declared.items.Item.{Item}
@@ -19,19 +20,19 @@ pub none-listed : (o : Option Item) → ((x : Item) → o ≢ Some x) → option
 none-listed None h = refl
 none-listed (Some x) h = absurd (h x refl)
 
-module _ (xs : List Text) (i : ℕ) (d : Text) (name : NameNode) (new : List ℕ) (places : List Pos) (within : i < length xs) where
+module _ (xs : List Text) (i : ℕ) (d : Text) (name : NameNode) (part : Part) (new : List ℕ) (places : List Pos) (within : i < length xs) where
   -- the edits in one text
   abbrev pub here : Members → Members
-  here changes = with_change (text_of (get_or xs i d)) new (flat_map (range_in i (text_of (get_or xs i d)).text name) places) changes
+  here changes = with_change (text_of (get_or xs i d)) new (flat_map (range_in (get_or xs i d).encoding i (text_of (get_or xs i d)).text name part) places) changes
 
   -- those in the texts from this one on
   abbrev pub from : ℕ → Members → Members
-  from n changes = with_changes n (map text_of (drop n xs)) name new places changes
+  from n changes = with_changes n (map text_of (drop n xs)) name part new places changes
 
   step : (changes : Members) → from i changes ≡ from (i + 1) (here changes)
   step changes =
       let first : drop i xs ≡ get_or xs i d ∷ drop (i + 1) xs = rw (add-one, drop-cons xs i d) refl in
-      ap (λ ys. with_changes i (map text_of ys) name new places changes) first
+      ap (λ ys. with_changes i (map text_of ys) name part new places changes) first
 
   -- a text adds these items, or none
   pub goes_on : (items more : List Item) (all : Members) → from i (lists.with_changes items no_members) ≡ all →

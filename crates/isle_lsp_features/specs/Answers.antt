@@ -61,28 +61,32 @@ abbrev pub FindsAt : requests.Request → List Text → List SeenNode → Place 
 FindsAt AskDefinition program all p message d = IsDefinition program (name_at p.pos all) all d
 FindsAt Implementation program all p message d = AreImplementations program (name_at p.pos all) all d
 FindsAt References program all p message d = AreReferences program (wants_definitions message) (name_at p.pos all) all d
-FindsAt DocumentHighlight program all p message d = AreHighlights p.pos.file p.text (name_at p.pos all) all d
-FindsAt PrepareRename program all p message d = d ≡ renamed.prepared p.text (renamed.renamable (name_at p.pos all) all) (occurrence_at p.pos all)
-FindsAt Hover program all p message d = IsHover program p.text (name_at p.pos all) (occurrence_at p.pos all) all d
+FindsAt DocumentHighlight program all p message d = AreHighlights p.encoding p.pos.file p.text (name_at p.pos all) all d
+FindsAt PrepareRename program all p message d = d ≡ renamed.prepared p.encoding p.text all (renamed.renamable (name_at p.pos all) all) (occurrence_at p.pos all)
+FindsAt Hover program all p message d = IsHover p.encoding program p.text (name_at p.pos all) (occurrence_at p.pos all) all d
 FindsAt SignatureHelp program all p message d = IsSignature program p.text p.pos.offset all d
-FindsAt Completion program all p message d = AreCompletions p.pos p.text all d
+FindsAt Completion program all p message d = AreCompletions p.encoding p.pos p.text all d
 FindsAt PrepareCallHierarchy program all p message d = FindsCalls PrepareCallHierarchy program all p d
 FindsAt IncomingCalls program all p message d = FindsCalls IncomingCalls program all p d
 FindsAt OutgoingCalls program all p message d = FindsCalls OutgoingCalls program all p d
 FindsAt _ program all p message d = Unit {0}
 
--- The outcome of renaming, from the index's answer. A text that other programs share is not edited: they would miss the new name. Nor is a name
--- edited that directly follows a number: the new one could become a part of it.
-abbrev pub IsRenamingBy : (takes : Bool) → List Text → NameNode → List ℕ → Result (Vec Pos) Refusal → Outcome → Type 0
-IsRenamingBy takes program name new (Ok places) a =
-    a ≡ (if renamed.are_shared program places.items then refused renamed.shared_reason
-    else if renamed.are_glued program name places.items then refused renamed.glued_reason
-    else done (renamed.changes takes program name new places.items))
-IsRenamingBy takes program name new (Err why) a = a ≡ refused (renamed.reason_of why)
+-- The outcome of renaming at these positions. A text that other programs share is not edited: they would miss the new name. Nor is a name edited
+-- that directly follows a number: the new one could become a part of it.
+abbrev pub ArePlaced : (takes : Bool) → List Text → NameNode → renaming.Part → List ℕ → List Pos → Outcome → Type 0
+ArePlaced takes program name part new places a =
+    a ≡ (if renamed.are_shared program places then refused renamed.shared_reason
+    else if renamed.are_glued program name part places then refused renamed.glued_reason
+    else done (renamed.changes takes program name part new places))
+
+-- the same from the index's answer
+abbrev pub IsRenamingBy : (takes : Bool) → List Text → NameNode → renaming.Part → List ℕ → Result (Vec Pos) Refusal → Outcome → Type 0
+IsRenamingBy takes program name part new (Ok places) a = ArePlaced takes program name part new places.items a
+IsRenamingBy takes program name part new (Err why) a = a ≡ refused (renamed.reason_of why)
 
 abbrev pub IsRenaming : (takes : Bool) → List Text → List SeenNode → NameNode → List ℕ → Outcome → Type 0
 IsRenaming takes program all name new a =
-    (answer : Result (Vec Pos) Refusal) × renaming.IsAnswer name new all answer × IsRenamingBy takes program name new answer a
+    (answer : Result (Vec Pos) Refusal) × renaming.IsAnswer name new all answer × IsRenamingBy takes program name (renaming.part_of name all) new answer a
 
 abbrev pub IsRenamingOf : (takes : Bool) → List Text → List SeenNode → (name : Option NameNode) → (new : Option (List ℕ)) → Outcome → Type 0
 IsRenamingOf takes program all name None a = a ≡ unplaced
@@ -103,7 +107,7 @@ IsFoundAt request program all (Some p) message a = IsAnswerAt request program al
 
 abbrev pub AreSymbols : List SeenNode → Option File → Outcome → Type 0
 AreSymbols all None a = a ≡ unplaced
-AreSymbols all (Some f) a = (d : Data) × AreDocumentSymbols f.text (symbols f.number all) d × (a ≡ done d)
+AreSymbols all (Some f) a = (d : Data) × AreDocumentSymbols f.encoding f.text (symbols f.number all) d × (a ≡ done d)
 
 abbrev pub IsResolution : List Text → List SeenNode → (item : Option Data) → Outcome → Type 0
 IsResolution program all None a = a ≡ unplaced

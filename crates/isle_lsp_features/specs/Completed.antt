@@ -27,6 +27,7 @@ use Rattle.isle_lsp_text.specs.Names.{name_before}
 use Rattle.isle_lsp_text.specs.Ranges.{range_between}
 use Rattle.isle_lsp_text.specs.declared.lists.ListSpan.{ListSpan}
 use Rattle.isle_lsp_text.specs.declared.positions.Range.{Range}
+use Rattle.isle_lsp_text.specs.declared.positions.PositionEncoding.{PositionEncoding}
 
 -- the protocol's number of a kind
 abbrev pub number_of : SymbolKind → ℕ
@@ -91,8 +92,8 @@ abbrev pub text_order : List ℕ → List ℕ → Ordering
 text_order = slice_cmp nat_cmp
 
 -- the range of the partly written name right before an offset
-abbrev pub range_before : List ℕ → (offset : ℕ) → Range
-range_before text offset = let end : ℕ = min offset (length text) in range_between text (end - length (name_before text offset)) end
+abbrev pub range_before : PositionEncoding → List ℕ → (offset : ℕ) → Range
+range_before enc text offset = let end : ℕ = min offset (length text) in range_between enc text (end - length (name_before text offset)) end
 
 abbrev pub begins_at : Option ListSpan → (end : ℕ) → ℕ
 begins_at None end = end
@@ -105,12 +106,12 @@ outer_start text lists offset = begins_at (outer_list offset lists) (length text
 -- The candidates and keywords that begin with the partly written name right before a place, which they replace, and that may stand there
 -- by what stands next in the innermost list around it, each once, sorted by text. The variables among them are those in scope at the last
 -- name before the place, if that name is in the outermost list around the place.
-abbrev pub AreCompletions : Pos → List ℕ → List SeenNode → Data → Type 0
-AreCompletions place text all d =
+abbrev pub AreCompletions : PositionEncoding → Pos → List ℕ → List SeenNode → Data → Type 0
+AreCompletions enc place text all d =
     let prefix : List ℕ = name_before text place.offset in
     (lists : List ListSpan) × (slot : Slot) × (found : List Word) × AreLists text lists × IsSlotAt text place.offset slot
     × IsPermutation (words slot prefix (candidates place (outer_start text lists place.offset) prefix all)) (map word_of found)
-    × IsSortedByKey (λ w. string_bytes w.text) text_order found × (d ≡ items (range_before text place.offset) (map word_of found))
+    × IsSortedByKey (λ w. string_bytes w.text) text_order found × (d ≡ items (range_before enc text place.offset) (map word_of found))
 
 -- ---- the name of an item
 

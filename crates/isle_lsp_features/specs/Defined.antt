@@ -15,6 +15,7 @@ use Rattle.isle_lsp_text.specs.Lists.{AreLists}
 use Rattle.isle_lsp_text.specs.Ranges.{range_at}
 use Rattle.isle_lsp_text.specs.Wholes.{whole_of}
 use Rattle.isle_lsp_text.specs.declared.lists.ListSpan.{ListSpan}
+use Rattle.isle_lsp_text.specs.declared.positions.PositionEncoding.{PositionEncoding}
 
 -- the protocol's number of a kind
 abbrev pub number_of : SymbolKind → ℕ
@@ -32,14 +33,14 @@ is_variant kinds.Constant = false
 is_variant kinds.Variable = false
 
 -- a definition: its range, and that of its name
-unfoldable pub symbol_data : List ℕ → List ListSpan → SymbolNode → Data
-symbol_data text lists s =
-    results.document_symbol s.text (number_of s.kind) (range_of text (whole_of text lists (is_variant s.kind) s.pos.offset s.len))
-    (range_at text s.pos.offset s.len)
+unfoldable pub symbol_data : PositionEncoding → List ℕ → List ListSpan → SymbolNode → Data
+symbol_data enc text lists s =
+    results.document_symbol s.text (number_of s.kind) (range_of enc text (whole_of text lists (is_variant s.kind) s.pos.offset s.len))
+    (range_at enc text s.pos.offset s.len)
 
 -- the definitions of a text, by its lists
-abbrev pub AreDocumentSymbols : List ℕ → List SymbolNode → Data → Type 0
-AreDocumentSymbols text found d = (lists : List ListSpan) × AreLists text lists × (d ≡ array (items_of (map (symbol_data text lists) found)))
+abbrev pub AreDocumentSymbols : PositionEncoding → List ℕ → List SymbolNode → Data → Type 0
+AreDocumentSymbols enc text found d = (lists : List ListSpan) × AreLists text lists × (d ≡ array (items_of (map (symbol_data enc text lists) found)))
 
 -- whether these bytes occur in a name in the same order, but not necessarily side by side; the case of ASCII letters is ignored
 abbrev pub has_letters : (letters name : List ℕ) → Bool
@@ -55,7 +56,7 @@ letters_left (l ∷ ls) b = if eq_ignore_ascii_case l b then ls else l ∷ ls
 -- a definition of a file, if its name matches the query
 unfoldable pub symbol_in : List ℕ → Text → SymbolNode → List Data
 symbol_in letters s x =
-    if has_letters letters x.text then results.workspace_symbol x.text (number_of x.kind) s.uri (range_at s.text x.pos.offset x.len) ∷ [] else []
+    if has_letters letters x.text then results.workspace_symbol x.text (number_of x.kind) s.uri (range_at s.encoding s.text x.pos.offset x.len) ∷ [] else []
 
 -- the definitions of files that are numbered from this number on
 abbrev pub symbols_from : ℕ → List ℕ → List Text → List SeenNode → List Data

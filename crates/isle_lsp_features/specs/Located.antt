@@ -11,11 +11,12 @@ use Rattle.isle_resolve.specs.Scopes.{SeenNode}
 use Rattle.isle_index.specs.declared.occurrences.Occurrence.{Occurrence}
 use Rattle.isle_lsp_protocol.specs.Results as results
 use Rattle.isle_lsp_text.specs.Ranges.{range_at}
+use Rattle.isle_lsp_text.specs.declared.positions.PositionEncoding.{PositionEncoding}
 
 -- the location of an occurrence, if it is in the text with this number, unless it is a definition and those are not asked for
 abbrev pub location_in : ℕ → Text → Bool → Occurrence → List Data
 location_in number s with_definitions o =
-    if o.pos.file == number && (with_definitions || not o.is_definition) then results.location s.uri (range_at s.text o.pos.offset o.len) ∷ [] else []
+    if o.pos.file == number && (with_definitions || not o.is_definition) then results.location s.uri (range_at s.encoding s.text o.pos.offset o.len) ∷ [] else []
 
 -- the locations in texts that are numbered from this number on
 abbrev pub locations_from : ℕ → List Text → Bool → List Occurrence → List Data
@@ -28,11 +29,11 @@ abbrev pub locations : List Text → Bool → List Occurrence → Data
 locations program with_definitions found = array (items_of (locations_from 0 program with_definitions found))
 
 -- the highlight of an occurrence, if it is in the text with this number
-abbrev pub highlight_of : ℕ → List ℕ → Occurrence → List Data
-highlight_of file text o = if o.pos.file == file then results.ranged (range_at text o.pos.offset o.len) ∷ [] else []
+abbrev pub highlight_of : PositionEncoding → ℕ → List ℕ → Occurrence → List Data
+highlight_of enc file text o = if o.pos.file == file then results.ranged (range_at enc text o.pos.offset o.len) ∷ [] else []
 
-abbrev pub highlights : ℕ → List ℕ → List Occurrence → Data
-highlights file text found = array (items_of (flat_map (highlight_of file text) found))
+abbrev pub highlights : PositionEncoding → ℕ → List ℕ → List Occurrence → Data
+highlights enc file text found = array (items_of (flat_map (highlight_of enc file text) found))
 
 -- the definitions of a name; null if there is none
 abbrev pub IsDefinition : List Text → Option NameNode → List SeenNode → Data → Type 0
@@ -45,7 +46,7 @@ AreReferences program own None all d = d ≡ null
 AreReferences program own (Some name) all d =
     (found : List Occurrence) × InOrder (occurrences name all) found × (d ≡ locations program own found)
 
-abbrev pub AreHighlights : ℕ → List ℕ → Option NameNode → List SeenNode → Data → Type 0
-AreHighlights file text None all d = d ≡ null
-AreHighlights file text (Some name) all d =
-    (found : List Occurrence) × InOrder (occurrences name all) found × (d ≡ highlights file text found)
+abbrev pub AreHighlights : PositionEncoding → ℕ → List ℕ → Option NameNode → List SeenNode → Data → Type 0
+AreHighlights enc file text None all d = d ≡ null
+AreHighlights enc file text (Some name) all d =
+    (found : List Occurrence) × InOrder (occurrences name all) found × (d ≡ highlights enc file text found)

@@ -5,10 +5,12 @@ use Rattle.serde_json.specs.View.{view}
 use Rattle.isle_lsp_protocol.specs.declared.machine.Request.{Request}
 use Rattle.isle_lsp_features.specs.declared.Question.{Question as CodeQuestion}
 use Rattle.isle_lsp_features.specs.declared.Text.{Text as CodeText}
+use Rattle.isle_lsp_text.specs.declared.positions.PositionEncoding.{PositionEncoding}
 
--- a text: how the client spells its URI, the file that it is, whether other programs than those of the request have that file, its
--- version if the client has it open, and its bytes
+-- a text: how positions in it are counted, how the client spells its URI, the file that it is, whether other programs than those of the request have
+-- that file, its version if the client has it open, and its bytes
 pub record Text : Type 0 where
+  pub encoding : PositionEncoding
   pub uri : List ℕ
   pub file : List ℕ
   pub is_shared : Bool
@@ -16,7 +18,7 @@ pub record Text : Type 0 where
   pub text : List ℕ
 
 abbrev pub text_of : CodeText → Text
-text_of t = record { uri = t.uri.now; file = t.file.now; is_shared = t.is_shared; version = t.version; text = t.text.now }
+text_of t = record { encoding = t.encoding; uri = t.uri.now; file = t.file.now; is_shared = t.is_shared; version = t.version; text = t.text.now }
 
 abbrev pub bytes_of : Text → List ℕ
 bytes_of t = t.text

@@ -13,6 +13,7 @@ use Rattle.isle_lsp_text.specs.Lists.{AreLists}
 use Rattle.isle_lsp_text.specs.Ranges.{range_at}
 use Rattle.isle_lsp_text.specs.declared.lists.ListSpan.{ListSpan}
 use Rattle.isle_lsp_text.specs.declared.wholes.Part.{Part}
+use Rattle.isle_lsp_text.specs.declared.positions.PositionEncoding.{PositionEncoding}
 
 -- the text from one offset to another, unless that splits a character
 abbrev pub IsCut : List ℕ → (from to : ℕ) → List ℕ → Type 0
@@ -44,16 +45,16 @@ IsShownOf program name all shown =
 
 -- ---- of an occurrence
 
-abbrev pub hover_data : List ℕ → (shown : Option (List ℕ)) → (at : Occurrence) → Data
-hover_data text None at = null
-hover_data text (Some shown) at = results.hover shown (range_at text at.pos.offset at.len)
+abbrev pub hover_data : PositionEncoding → List ℕ → (shown : Option (List ℕ)) → (at : Occurrence) → Data
+hover_data enc text None at = null
+hover_data enc text (Some shown) at = results.hover shown (range_at enc text at.pos.offset at.len)
 
 -- the hover of an occurrence; null if there is no name
-abbrev pub IsHover : List Text → List ℕ → Option NameNode → Option Occurrence → List SeenNode → Data → Type 0
-IsHover program text None at all d = d ≡ null
-IsHover program text (Some name) None all d = d ≡ null
-IsHover program text (Some name) (Some at) all d =
-    (shown : Option (List ℕ)) × IsShownOf program name all shown × (d ≡ hover_data text shown at)
+abbrev pub IsHover : PositionEncoding → List Text → List ℕ → Option NameNode → Option Occurrence → List SeenNode → Data → Type 0
+IsHover enc program text None at all d = d ≡ null
+IsHover enc program text (Some name) None all d = d ≡ null
+IsHover enc program text (Some name) (Some at) all d =
+    (shown : Option (List ℕ)) × IsShownOf program name all shown × (d ≡ hover_data enc text shown at)
 
 -- ---- of an item of a completion
 

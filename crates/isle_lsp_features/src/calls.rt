@@ -35,12 +35,21 @@ pub fn calls(
     match request {
         Request::PrepareCallHierarchy => prepare(alloc, &sources, index, place.pos),
         Request::IncomingCalls => incoming(alloc, &sources, index, place.pos),
-        Request::OutgoingCalls => outgoing(alloc, &sources, index, place.pos, place.text),
+        Request::OutgoingCalls => {
+            outgoing(
+                alloc,
+                place.encoding,
+                &sources,
+                index,
+                place.pos,
+                place.text,
+            )
+        },
         _ => Ok(Value::Null),
     }
 }
 
-/// The texts of a program with their URIs alone.
+/// The texts of a program, with their encodings and their URIs alone.
 fn sources<'a>(alloc: Global, program: &[Text<'a>]) -> Result<Vec<Source<'a>>, AllocError>
     ensures { IfOk result (λ sources. map source_of sources.items
         ≡ map source_in (map text_of program.now)) }
@@ -48,6 +57,7 @@ fn sources<'a>(alloc: Global, program: &[Text<'a>]) -> Result<Vec<Source<'a>>, A
     let mut sources = Vec::new(alloc);
     for text in program {
         sources.push(Source {
+            encoding: text.encoding,
             uri: text.uri,
             text: text.text,
         })?;

@@ -44,8 +44,8 @@ pub fn completion<'a>(
     index: &Index,
     place: Place,
 ) -> Result<Vec<Item<'a>>, AllocError>
-    ensures { IfOk result (λ items. AreCompletions place.entry.pos place.entry.text.now
-        (all_in index.now) (items_data items.items)) }
+    ensures { IfOk result (λ items. AreCompletions place.entry.encoding place.entry.pos
+        place.entry.text.now (all_in index.now) (items_data items.items)) }
 {
     let lists = lists(alloc, place.text)?;
     let from = outer_start(place.text, &lists, place.pos.offset);
@@ -53,7 +53,7 @@ pub fn completion<'a>(
     let found = index.candidates(alloc, place.pos, from, prefix)?;
     let slot = slot_at(alloc, place.text, place.pos.offset)?;
     let words = sorted_words(alloc, found, slot, prefix)?;
-    let range = range_before(place.text, place.pos.offset, prefix);
+    let range = range_before(place, prefix);
     items(alloc, words, range)
 }
 
@@ -67,15 +67,17 @@ fn outer_start(text: &str, lists: &[ListSpan], offset: usize) -> usize
     }
 }
 
-/// The range of the partly written name right before an offset, which is this prefix.
-fn range_before(text: &str, offset: usize, prefix: &[u8]) -> Range
-    requires name { prefix.now ≡ name_before text.now offset }
-    requires within { length prefix.now ≤ min offset (length text.now) }
-    ensures { result ≡ wanted.range_before text.now offset }
+/// The range of the partly written name right before a place, which is this prefix.
+fn range_before(place: Place, prefix: &[u8]) -> Range
+    requires name { prefix.now ≡ name_before place.text.now place.pos.offset }
+    requires within { length prefix.now ≤ min place.pos.offset (length place.text.now) }
+    ensures { result
+        ≡ wanted.range_before place.entry.encoding place.entry.text.now place.entry.pos.offset }
 {
-    let end = offset.min(text.len());
+    let text = place.text;
+    let end = place.pos.offset.min(text.len());
     let mut near = START;
-    range_between(text, &mut near, end - prefix.len(), end)
+    range_between(place.encoding, text, &mut near, end - prefix.len(), end)
 }
 
 /// The candidates that may stand in a slot and the keywords that begin with a prefix, sorted.

@@ -32,8 +32,8 @@ pub fn hover(
     place: Place,
 ) -> Result<Value, AllocError>
     ensures { let all = all_in index.now in IfOk result (λ value.
-        IsHover (map text_of program.now) place.entry.text.now (name_at place.entry.pos all)
-        (occurrence_at place.entry.pos all) all (view value)) }
+        IsHover place.entry.encoding (map text_of program.now) place.entry.text.now
+        (name_at place.entry.pos all) (occurrence_at place.entry.pos all) all (view value)) }
 {
     match (
         index.name_at(alloc, place.pos)?,
@@ -41,25 +41,31 @@ pub fn hover(
     ) {
         (Some(name), Some(occurrence)) => {
             let shown = documentation(alloc, program, index, &name)?;
-            hover_at(alloc, place.text, shown, occurrence)
+            hover_at(alloc, place, shown, occurrence)
         }
         _ => Ok(Value::Null),
     }
 }
 
-/// The hover of an occurrence, with this documentation.
+/// The hover of an occurrence in the text of a place, with this documentation.
 fn hover_at(
     alloc: Global,
-    text: &str,
+    place: Place,
     shown: Option<String>,
     occurrence: Occurrence,
 ) -> Result<Value, AllocError>
     ensures { IfOk result (λ value. view value
-        ≡ wanted.hover_data text.now (option_map string_bytes shown) occurrence) }
+        ≡ wanted.hover_data place.entry.encoding place.entry.text.now
+        (option_map string_bytes shown) occurrence) }
 {
     match shown {
         Some(shown) => {
-            let range = range_at(text, occurrence.pos.offset, occurrence.len);
+            let range = range_at(
+                place.encoding,
+                place.text,
+                occurrence.pos.offset,
+                occurrence.len,
+            );
             hover_value(alloc, shown.as_str(), range)
         }
         None => Ok(Value::Null),

@@ -36,6 +36,7 @@ use isle_lsp_protocol::items::{Item, Listing};
 use isle_lsp_protocol::machine::{ErrorCode, Request};
 use isle_lsp_protocol::parameters::{item_of, query_of, wants_definitions};
 use isle_lsp_protocol::replies::{Outcome, error_outcome};
+use isle_lsp_text::positions::PositionEncoding;
 use places::{Place, file_of, place_of};
 use serde_json::Value;
 use std::alloc::{AllocError, Global};
@@ -43,6 +44,8 @@ use std::alloc::{AllocError, Global};
 /// A text of a program.
 #[derive(Clone, Copy)]
 pub struct Text<'a> {
+    /// How positions in it are counted.
+    pub encoding: PositionEncoding,
     /// Its URI, as the client spells it.
     pub uri: &'a str,
     /// The file that it is, which has one name however its URI is spelt.

@@ -67,13 +67,13 @@ pub fn highlights<'a>(
     place: Place,
 ) -> Result<Option<Vec<Item<'a>>>, AllocError>
     ensures { let all = all_in index.now in IfOk result (λ items.
-        AreHighlights place.entry.pos.file place.entry.text.now (name_at place.entry.pos all) all
-        (list_data items)) }
+        AreHighlights place.entry.encoding place.entry.pos.file place.entry.text.now
+        (name_at place.entry.pos all) all (list_data items)) }
 {
     match index.name_at(alloc, place.pos)? {
         Some(name) => {
             let found = index.occurrences(alloc, &name)?;
-            Ok(Some(highlights_in(alloc, place.pos.file, place.text, &found)?))
+            Ok(Some(highlights_in(alloc, place, &found)?))
         }
         None => Ok(None),
     }
@@ -125,10 +125,10 @@ fn location_in<'a>(
     near: &mut TextPlace,
     occurrence: Occurrence,
 ) -> Option<Item<'a>>
-    requires { IsPlace source.text.now near.old }
+    requires { IsPlace source.encoding source.text.now near.old }
     ensures item { option_to_list (option_map item_data result)
         ≡ wanted.location_in number (text_of source.entry) with_definitions occurrence }
-    ensures near { IsPlace source.entry.text.now near.new }
+    ensures near { IsPlace source.entry.encoding source.entry.text.now near.new }
 {
     if occurrence.pos.file != number {
         return None;
@@ -137,45 +137,51 @@ fn location_in<'a>(
         return None;
     }
     let uri = source.uri;
-    let range = range_near(source.text, near, occurrence.pos.offset, occurrence.len);
+    let range = range_near(
+        source.encoding,
+        source.text,
+        near,
+        occurrence.pos.offset,
+        occurrence.len,
+    );
     Some(Item::Location { uri, range })
 }
 
-/// The highlights of the occurrences in the text with this number.
+/// The highlights of the occurrences in the text of a place.
 fn highlights_in<'a>(
     alloc: Global,
-    file: usize,
-    text: &str,
+    place: Place,
     found: &[Occurrence],
 ) -> Result<Vec<Item<'a>>, AllocError>
-    ensures { IfOk result
-        (λ items. items_data items.items ≡ wanted.highlights file text.now found.now) }
+    ensures { IfOk result (λ items. items_data items.items ≡ wanted.highlights
+        place.entry.encoding place.entry.pos.file place.entry.text.now found.now) }
 {
     let mut items = Vec::new(alloc);
     let mut near = START;
     for occurrence in found {
-        if let Some(item) = highlight_of(file, text, &mut near, *occurrence) {
+        if let Some(item) = highlight_of(place, &mut near, *occurrence) {
             items.push(item)?;
         }
     }
     Ok(items)
 }
 
-/// The highlight of an occurrence, if it is in the text with this number.
-fn highlight_of<'a>(
-    file: usize,
-    text: &str,
-    near: &mut TextPlace,
-    occurrence: Occurrence,
-) -> Option<Item<'a>>
-    requires { IsPlace text.now near.old }
-    ensures item { option_to_list (option_map item_data result)
-        ≡ wanted.highlight_of file text.now occurrence }
-    ensures near { IsPlace text.now near.new }
+/// The highlight of an occurrence, if it is in the text of a place.
+fn highlight_of<'a>(place: Place, near: &mut TextPlace, occurrence: Occurrence) -> Option<Item<'a>>
+    requires { IsPlace place.encoding place.text.now near.old }
+    ensures item { option_to_list (option_map item_data result) ≡ wanted.highlight_of
+        place.entry.encoding place.entry.pos.file place.entry.text.now occurrence }
+    ensures near { IsPlace place.entry.encoding place.entry.text.now near.new }
 {
-    if occurrence.pos.file != file {
+    if occurrence.pos.file != place.pos.file {
         return None;
     }
-    let range = range_near(text, near, occurrence.pos.offset, occurrence.len);
+    let range = range_near(
+        place.encoding,
+        place.text,
+        near,
+        occurrence.pos.offset,
+        occurrence.len,
+    );
     Some(Item::Highlight { range })
 }

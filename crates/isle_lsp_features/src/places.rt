@@ -7,11 +7,13 @@ ghost use Rattle.isle_lsp_features.specs.Places as wanted;
 use crate::{Question, Text};
 use isle_base::lexer::Pos;
 use isle_lsp_protocol::parameters::position_of;
-use isle_lsp_text::positions::offset_of;
+use isle_lsp_text::positions::{PositionEncoding, offset_of};
 
 /// A text of a program.
 #[derive(Clone, Copy)]
 pub struct File<'a> {
+    /// How positions in the text are counted.
+    pub encoding: PositionEncoding,
     /// Its number.
     pub number: usize,
     /// The text.
@@ -21,6 +23,8 @@ pub struct File<'a> {
 /// A place in a program.
 #[derive(Clone, Copy)]
 pub struct Place<'a> {
+    /// How positions in the text are counted.
+    pub encoding: PositionEncoding,
     /// The number of its text, and the byte offset in it.
     pub pos: Pos,
     /// The text.
@@ -34,8 +38,11 @@ pub fn file_of<'a>(program: &[Text<'a>], name: &str) -> Option<File<'a>>
 {
     for (number, source) in program.iter().enumerate() {
         if source.file == name {
-            let text = source.text;
-            return Some(File { number, text });
+            return Some(File {
+                encoding: source.encoding,
+                number,
+                text: source.text,
+            });
         }
     }
     None
@@ -51,7 +58,8 @@ pub fn place_of<'a>(program: &[Text<'a>], question: Question) -> Option<Place<'a
         position_of(question.message),
     ) {
         (Some(file), Some(position)) => Some(Place {
-            pos: Pos::new(file.number, offset_of(file.text, position)),
+            encoding: file.encoding,
+            pos: Pos::new(file.number, offset_of(file.encoding, file.text, position)),
             text: file.text,
         }),
         _ => None,

@@ -17,7 +17,7 @@ use crate::places::File;
 use isle_index::{Index, Symbol, SymbolKind};
 use isle_lsp_protocol::items::Item;
 use isle_lsp_text::lists::{ListSpan, lists};
-use isle_lsp_text::positions::{Place as TextPlace, START};
+use isle_lsp_text::positions::{Place as TextPlace, PositionEncoding, START};
 use isle_lsp_text::ranges::{range_between, range_near};
 use isle_lsp_text::wholes::whole_of;
 use std::alloc::{AllocError, Global};
@@ -28,28 +28,29 @@ pub fn document_symbols<'a>(
     index: &Index,
     file: File,
 ) -> Result<Vec<Item<'a>>, AllocError>
-    ensures { IfOk result (λ items. AreDocumentSymbols file.entry.text.now
+    ensures { IfOk result (λ items. AreDocumentSymbols file.entry.encoding file.entry.text.now
         (symbols file.entry.number (all_in index.now)) (items_data items.items)) }
 {
     let lists = lists(alloc, file.text)?;
     let symbols = index.symbols(alloc, file.number)?;
-    symbol_items(alloc, file.text, &lists, &symbols)
+    symbol_items(alloc, file.encoding, file.text, &lists, &symbols)
 }
 
 fn symbol_items<'a>(
     alloc: Global,
+    encoding: PositionEncoding,
     text: &str,
     lists: &[ListSpan],
     symbols: &[Symbol],
 ) -> Result<Vec<Item<'a>>, AllocError>
     ensures { IfOk result (λ items. items_data items.items
-        ≡ array (items_of (map (wanted.symbol_data text.now lists.now)
+        ≡ array (items_of (map (wanted.symbol_data encoding text.now lists.now)
         (map symbol_of symbols.now)))) }
 {
     let mut items = Vec::new(alloc);
     let mut near = START;
     for symbol in symbols {
-        let item = symbol_item(alloc, text, lists, &mut near, symbol)?;
+        let item = symbol_item(alloc, encoding, text, lists, &mut near, symbol)?;
         items.push(item)?;
     }
     Ok(items)
@@ -58,20 +59,21 @@ fn symbol_items<'a>(
 #[tactic(auto, unfolding(crate::specs::Defined::symbol_data))]
 fn symbol_item<'a>(
     alloc: Global,
+    encoding: PositionEncoding,
     text: &str,
     lists: &[ListSpan],
     near: &mut TextPlace,
     symbol: &Symbol,
 ) -> Result<Item<'a>, AllocError>
-    requires { IsPlace text.now near.old }
-    ensures item { IfOk result
-        (λ item. item_data item ≡ wanted.symbol_data text.now lists.now (symbol_of symbol.now)) }
-    ensures near { IsPlace text.now near.new }
+    requires { IsPlace encoding text.now near.old }
+    ensures item { IfOk result (λ item. item_data item
+        ≡ wanted.symbol_data encoding text.now lists.now (symbol_of symbol.now)) }
+    ensures near { IsPlace encoding text.now near.new }
 {
     let is_variant = is_variant(symbol.kind);
     let whole = whole_of(text, lists, is_variant, symbol.pos.offset, symbol.len);
-    let range = range_between(text, near, whole.from, whole.to);
-    let selection = range_near(text, near, symbol.pos.offset, symbol.len);
+    let range = range_between(encoding, text, near, whole.from, whole.to);
+    let selection = range_near(encoding, text, near, symbol.pos.offset, symbol.len);
     Ok(Item::DocumentSymbol {
         name: String::from_str(alloc, symbol.text.as_str())?,
         kind: number_of(symbol.kind),
@@ -137,15 +139,21 @@ fn matching_symbol<'a>(
     symbol: &Symbol,
     query: &str,
 ) -> Result<Option<Item<'a>>, AllocError>
-    requires { IsPlace source.text.now near.old }
+    requires { IsPlace source.encoding source.text.now near.old }
     ensures item { IfOk result (λ item. option_to_list (option_map item_data item)
         ≡ wanted.symbol_in query.now (text_of source.entry) (symbol_of symbol.now)) }
-    ensures near { IsPlace source.entry.text.now near.new }
+    ensures near { IsPlace source.entry.encoding source.entry.text.now near.new }
 {
     if !has_letters(symbol.text.as_str(), query) {
         return Ok(None);
     }
-    let range = range_near(source.text, near, symbol.pos.offset, symbol.len);
+    let range = range_near(
+        source.encoding,
+        source.text,
+        near,
+        symbol.pos.offset,
+        symbol.len,
+    );
     Ok(Some(Item::WorkspaceSymbol {
         name: String::from_str(alloc, symbol.text.as_str())?,
         kind: number_of(symbol.kind),

@@ -12,6 +12,7 @@ ghost use Rattle.isle_program_manifest.specs.Membership as Membership;
 use crate::disk::{File, View};
 use crate::documents::{Document, has_file};
 use isle_lsp_features::Text;
+use isle_lsp_text::positions::PositionEncoding;
 use isle_program_manifest::membership;
 use isle_program_manifest::membership::union_with;
 use std::alloc::{AllocError, Global};
@@ -20,14 +21,16 @@ use std::alloc::{AllocError, Global};
 /// all if it names none.
 pub fn program_of<'a>(
     alloc: Global,
+    encoding: PositionEncoding,
     documents: &'a [Document],
     view: &'a View,
     names_file: bool,
 ) -> Result<Vec<Text<'a>>, AllocError>
     ensures { IfOk result (λ program. map text_of program.items
-        ≡ wanted.program_of names_file (map document_of documents.now) (view_of view.now)) }
+        ≡ wanted.program_of encoding names_file (map document_of documents.now)
+        (view_of view.now)) }
 {
-    let texts = all_texts(alloc, documents, view)?;
+    let texts = all_texts(alloc, encoding, documents, view)?;
     if names_file {
         texts_beside(alloc, view, &texts)
     } else {
@@ -39,14 +42,15 @@ pub fn program_of<'a>(
 /// documents. So a text keeps its place when its document is opened, changed or closed.
 fn all_texts<'a>(
     alloc: Global,
+    encoding: PositionEncoding,
     documents: &'a [Document],
     view: &'a View,
 ) -> Result<Vec<Text<'a>>, AllocError>
     ensures { IfOk result (λ texts. map text_of texts.items
-        ≡ wanted.all_texts (map document_of documents.now) (view_of view.now)) }
+        ≡ wanted.all_texts encoding (map document_of documents.now) (view_of view.now)) }
 {
-    let opened = open_texts(alloc, documents, view)?;
-    let mut texts = file_texts(alloc, view, &opened)?;
+    let opened = open_texts(alloc, encoding, documents, view)?;
+    let mut texts = file_texts(alloc, encoding, view, &opened)?;
     add_others(view, &opened, &mut texts)?;
     Ok(texts)
 }
@@ -83,26 +87,32 @@ fn shows(view: &View, file: &str) -> bool
 /// The files of a view, each as it is open, or else as it is on the disk.
 fn file_texts<'a>(
     alloc: Global,
+    encoding: PositionEncoding,
     view: &'a View,
     opened: &[Text<'a>],
 ) -> Result<Vec<Text<'a>>, AllocError>
     ensures { IfOk result (λ texts. map text_of texts.items
-        ≡ wanted.file_texts (view_of view.now) (map text_of opened.now)) }
+        ≡ wanted.file_texts encoding (view_of view.now) (map text_of opened.now)) }
 {
     let mut texts = Vec::new(alloc);
     for file in &view.files {
-        texts.push(file_text(view, opened, file))?;
+        texts.push(file_text(encoding, view, opened, file))?;
     }
     Ok(texts)
 }
 
-fn file_text<'a>(view: &'a View, opened: &[Text<'a>], file: &'a File) -> Text<'a>
+fn file_text<'a>(
+    encoding: PositionEncoding,
+    view: &'a View,
+    opened: &[Text<'a>],
+    file: &'a File,
+) -> Text<'a>
     ensures { text_of result
-        ≡ wanted.file_text (view_of view.now) (map text_of opened.now) (file_of file.now) }
+        ≡ wanted.file_text encoding (view_of view.now) (map text_of opened.now) (file_of file.now) }
 {
     match text_at(opened, file.path.as_str()) {
         Some(text) => text,
-        None => closed_text(view, file),
+        None => closed_text(encoding, view, file),
     }
 }
 
@@ -121,27 +131,30 @@ fn text_at<'a>(texts: &[Text<'a>], file: &str) -> Option<Text<'a>>
 /// The open documents, each file once.
 fn open_texts<'a>(
     alloc: Global,
+    encoding: PositionEncoding,
     documents: &'a [Document],
     view: &View,
 ) -> Result<Vec<Text<'a>>, AllocError>
     ensures { IfOk result (λ texts. map text_of texts.items
-        ≡ wanted.open_texts (view_of view.now) (map document_of documents.now)) }
+        ≡ wanted.open_texts encoding (view_of view.now) (map document_of documents.now)) }
 {
     let mut texts = Vec::new(alloc);
     let mut rest = documents;
     while let [document, later @ ..] = rest {
         if !has_file(later, document.file.as_str()) {
-            texts.push(open_text(view, document))?;
+            texts.push(open_text(encoding, view, document))?;
         }
         rest = later;
     }
     Ok(texts)
 }
 
-fn open_text<'a>(view: &View, document: &'a Document) -> Text<'a>
-    ensures { text_of result ≡ wanted.open_text (view_of view.now) (document_of document.now) }
+fn open_text<'a>(encoding: PositionEncoding, view: &View, document: &'a Document) -> Text<'a>
+    ensures { text_of result
+        ≡ wanted.open_text encoding (view_of view.now) (document_of document.now) }
 {
     Text {
+        encoding,
         uri: document.uri.as_str(),
         file: document.file.as_str(),
         is_shared: is_shared(view, document.file.as_str()),
@@ -150,10 +163,11 @@ fn open_text<'a>(view: &View, document: &'a Document) -> Text<'a>
     }
 }
 
-fn closed_text<'a>(view: &View, file: &'a File) -> Text<'a>
-    ensures { text_of result ≡ wanted.closed_text (view_of view.now) (file_of file.now) }
+fn closed_text<'a>(encoding: PositionEncoding, view: &View, file: &'a File) -> Text<'a>
+    ensures { text_of result ≡ wanted.closed_text encoding (view_of view.now) (file_of file.now) }
 {
     Text {
+        encoding,
         uri: file.uri.as_str(),
         file: file.path.as_str(),
         is_shared: is_shared(view, file.path.as_str()),
@@ -199,14 +213,15 @@ fn texts_beside<'a>(
 /// can't be read is left out.
 pub fn programs_of<'a>(
     alloc: Global,
+    encoding: PositionEncoding,
     documents: &'a [Document],
     view: &'a View,
     file: &str,
 ) -> Result<Vec<Vec<Text<'a>>>, AllocError>
     ensures { IfOk result (λ programs. map (λ p. map text_of p.items) programs.items
-        ≡ wanted.programs_of (map document_of documents.now) (view_of view.now) file.now) }
+        ≡ wanted.programs_of encoding (map document_of documents.now) (view_of view.now) file.now) }
 {
-    let texts = all_texts(alloc, documents, view)?;
+    let texts = all_texts(alloc, encoding, documents, view)?;
     programs_in(alloc, view, file, &texts)
 }
 

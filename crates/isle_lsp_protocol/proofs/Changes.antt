@@ -4,13 +4,14 @@ use Rattle.std.proofs.lemmas.Grind.{common_steps}
 use Rattle.serde_json.specs.View.{view, items_view}
 use Rattle.serde_json.specs.declared.value.Value.{Value}
 use Rattle.isle_lsp_protocol.specs.Parameters.{text_after_one, text_after_all}
+use Rattle.isle_lsp_text.specs.declared.positions.PositionEncoding.{PositionEncoding}
 
-pub step : (vs : List Value) (i : ℕ) (v : Value) (text : List ℕ) → i < length vs → v ≡ get_or vs i v → text_after_all (items_view (drop i vs)) text ≡ text_after_all (items_view (drop (i + 1) vs)) (text_after_one (view v) text)
-step vs i v text h e =
+pub step : (enc : PositionEncoding) (vs : List Value) (i : ℕ) (v : Value) (text : List ℕ) → i < length vs → v ≡ get_or vs i v → text_after_all enc (items_view (drop i vs)) text ≡ text_after_all enc (items_view (drop (i + 1) vs)) (text_after_one enc (view v) text)
+step enc vs i v text h e =
     let d : drop i vs ≡ get_or vs i v ∷ drop (i + 1) vs = rw (add-one, drop-cons vs i v) refl in
-    ap (λ l. text_after_all (items_view l) text) d ∙ ap (λ w. text_after_all (items_view (drop (i + 1) vs)) (text_after_one (view w) text)) (sym e)
+    ap (λ l. text_after_all enc (items_view l) text) d ∙ ap (λ w. text_after_all enc (items_view (drop (i + 1) vs)) (text_after_one enc (view w) text)) (sym e)
 
-pub done : (vs : List Value) (i : ℕ) (text : List ℕ) → length vs ≤ i → text_after_all (items_view (drop i vs)) text ≡ text
-done vs i text h =
+pub done : (enc : PositionEncoding) (vs : List Value) (i : ℕ) (text : List ℕ) → length vs ≤ i → text_after_all enc (items_view (drop i vs)) text ≡ text
+done enc vs i text h =
     let z : drop i vs ≡ [] = grind (arith, common_steps) in
     rw z refl

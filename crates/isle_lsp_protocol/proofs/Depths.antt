@@ -10,6 +10,8 @@ use Rattle.isle_lsp_protocol.specs.Items.{edits_data}
 use Rattle.isle_lsp_protocol.specs.Parameters.{if_object, item_of}
 use Rattle.isle_lsp_protocol.specs.Replies.{Outcome, done, failed, reply, reply_id, usable_id}
 use Rattle.isle_lsp_protocol.specs.Results.{checked_data, completion_item, document_edits, document_symbol, error_data, hover, location, markdown, position_data, range_data, ranged, text_edit, version_data, warning_data, with_documentation, workspace_symbol}
+use Rattle.isle_lsp_text.specs.declared.positions.PositionEncoding.{PositionEncoding}
+use Rattle.isle_lsp_text.specs.declared.positions.PositionEncoding.TheVariants.{Utf16, Utf8}
 
 -- data that is equal to other data is no deeper
 pub at_most : (n : ℕ) (d e : Data) → d ≡ e → depth e ≤ n → depth d ≤ n
@@ -136,8 +138,9 @@ documented_depth n (object ms) shown h l =
     let put_in = put_depth (n - 1) (codes "documentation") (markdown shown) ms (omega arith) inner in
     omega (arith, put_in)
 
-pub initialized_depth : depth initialize_result ≤ 5
-initialized_depth = omega arith
+pub initialized_depth : (enc : PositionEncoding) → depth (initialize_result enc) ≤ 5
+initialized_depth Utf8 = omega arith
+initialized_depth Utf16 = omega arith
 
 pub error_depth : (r : Range) (message : List ℕ) → depth (error_data r message) ≤ 4
 error_depth r message = omega (arith, range_depth r)

@@ -1,8 +1,10 @@
 -- What the server tells the client when a session begins.
-use Rattle.std.specs.Prelude.{codes, true}
+use Rattle.std.specs.Prelude.{ℕ, List, codes, true}
 use Rattle.serde_json.specs.Data.{Data, array, boolean, item, member, no_items, no_members, number, object, string, unsigned}
+use Rattle.isle_lsp_text.specs.declared.positions.PositionEncoding.{PositionEncoding}
+use Rattle.isle_lsp_text.specs.declared.positions.PositionEncoding.TheVariants.{Utf8, Utf16}
 
--- code actions are quick fixes
+-- code actions are quick fixes, and the expansion of an extractor where it is used
 abbrev pub code_action_kinds : Data
 code_action_kinds = array (item (string (codes "quickfix")) (item (string (codes "refactor.inline")) no_items))
 
@@ -54,9 +56,14 @@ text_document_sync = object (member (codes "change") (number (unsigned 2)) (memb
 abbrev pub workspace_folders : Data
 workspace_folders = object (member (codes "changeNotifications") (boolean true) (member (codes "supported") (boolean true) no_members))
 
--- what the server can do; positions count units of UTF-16
-abbrev pub capabilities : Data
-capabilities =
+-- the protocol's name of an encoding of positions
+abbrev pub encoding_name : PositionEncoding → List ℕ
+encoding_name Utf8 = codes "utf-8"
+encoding_name Utf16 = codes "utf-16"
+
+-- what the server can do, where positions have this encoding
+abbrev pub capabilities : PositionEncoding → Data
+capabilities enc =
     object (member (codes "callHierarchyProvider") (boolean true)
     (member (codes "codeActionProvider") code_actions
     (member (codes "completionProvider") completion
@@ -70,7 +77,7 @@ capabilities =
     (member (codes "hoverProvider") (boolean true)
     (member (codes "implementationProvider") (boolean true)
     (member (codes "inlayHintProvider") (boolean true)
-    (member (codes "positionEncoding") (string (codes "utf-16"))
+    (member (codes "positionEncoding") (string (encoding_name enc))
     (member (codes "referencesProvider") (boolean true)
     (member (codes "renameProvider") rename
     (member (codes "selectionRangeProvider") (boolean true)
@@ -85,5 +92,5 @@ abbrev pub server_info : Data
 server_info = object (member (codes "name") (string (codes "isle-lsp")) (member (codes "version") (string (codes "0.137.1")) no_members))
 
 -- the result of `initialize`
-abbrev pub initialize_result : Data
-initialize_result = object (member (codes "capabilities") capabilities (member (codes "serverInfo") server_info no_members))
+abbrev pub initialize_result : PositionEncoding → Data
+initialize_result enc = object (member (codes "capabilities") (capabilities enc) (member (codes "serverInfo") server_info no_members))

@@ -5,6 +5,8 @@ use Rattle.serde_json.specs.Find.{get, pointer, as_str, as_bool, as_number, as_o
 use Rattle.isle_lsp_frames.specs.Uris.{uri_of as uri_of_path}
 use Rattle.isle_lsp_text.specs.Changes.{apply_change}
 use Rattle.isle_lsp_text.specs.declared.positions.Position.{Position}
+use Rattle.isle_lsp_text.specs.declared.positions.PositionEncoding.{PositionEncoding}
+use Rattle.isle_lsp_text.specs.declared.positions.PositionEncoding.TheVariants.{Utf8, Utf16}
 use Rattle.isle_lsp_text.specs.declared.positions.Range.{Range}
 
 -- the first of two, if there is one, or else the second
@@ -82,13 +84,13 @@ position_of d = option_and_then position_in (at_either (codes "/params/position"
 abbrev pub range_of : Data → Option Range
 range_of d = option_and_then range_in (pointer (codes "/params/range") d)
 
--- a line break is typed
-abbrev pub is_break : Option (List ℕ) → Bool
-is_break None = false
-is_break (Some typed) = bytes_eq typed (codes "\n")
+abbrev pub is_text : (wanted : List ℕ) → Option (List ℕ) → Bool
+is_text wanted None = false
+is_text wanted (Some text) = bytes_eq text wanted
 
+-- a line break is typed
 abbrev pub breaks_line : Data → Bool
-breaks_line d = is_break (option_and_then as_str (pointer (codes "/params/ch") d))
+breaks_line d = is_text (codes "\n") (option_and_then as_str (pointer (codes "/params/ch") d))
 
 -- the line before a position, or its own line up to it
 abbrev pub typed_line : (breaks : Bool) → Position → Range
@@ -125,6 +127,19 @@ takes_document_changes d = is_true (option_and_then as_bool (pointer (codes "/pa
 -- the client watches the files that a server names
 abbrev pub watches_files : Data → Bool
 watches_files d = is_true (option_and_then as_bool (pointer (codes "/params/capabilities/workspace/didChangeWatchedFiles/dynamicRegistration") d))
+
+-- one of these is this text
+abbrev pub has_text : List ℕ → Items → Bool
+has_text text no_items = false
+has_text text (item d ds) = is_text text (as_str d) || has_text text ds
+
+abbrev pub encoding_among : (offered : Option Items) → PositionEncoding
+encoding_among None = Utf16
+encoding_among (Some offered) = if has_text (codes "utf-8") offered then Utf8 else Utf16
+
+-- the encoding of positions: UTF-8 if the client offers it, and else UTF-16, which every client supports
+abbrev pub encoding_of : Data → PositionEncoding
+encoding_of d = encoding_among (option_and_then as_array (pointer (codes "/params/capabilities/general/positionEncodings") d))
 
 -- ---- folders
 
@@ -176,28 +191,28 @@ folders_after d folders = with_all (without (uris_at (codes "/params/event/remov
 
 -- ---- changes
 
-abbrev pub changed_within : Option Range → (text new : List ℕ) → List ℕ
-changed_within None text new = text
-changed_within (Some range) text new = apply_change text (Some range) new
+abbrev pub changed_within : PositionEncoding → Option Range → (text new : List ℕ) → List ℕ
+changed_within enc None text new = text
+changed_within enc (Some range) text new = apply_change enc text (Some range) new
 
-abbrev pub changed_by : (range : Option Data) → (new : Option (List ℕ)) → List ℕ → List ℕ
-changed_by range None text = text
-changed_by None (Some new) text = apply_change text None new
-changed_by (Some range) (Some new) text = changed_within (range_in range) text new
+abbrev pub changed_by : PositionEncoding → (range : Option Data) → (new : Option (List ℕ)) → List ℕ → List ℕ
+changed_by enc range None text = text
+changed_by enc None (Some new) text = apply_change enc text None new
+changed_by enc (Some range) (Some new) text = changed_within enc (range_in range) text new
 
 -- the text after one change; a change that does not follow the protocol is ignored
-unfoldable pub text_after_one : Data → List ℕ → List ℕ
-text_after_one d text = changed_by (get (codes "range") d) (option_and_then as_str (get (codes "text") d)) text
+unfoldable pub text_after_one : PositionEncoding → Data → List ℕ → List ℕ
+text_after_one enc d text = changed_by enc (get (codes "range") d) (option_and_then as_str (get (codes "text") d)) text
 
 -- the text after each of these, applied to the text that those before it leave
-abbrev pub text_after_all : Items → List ℕ → List ℕ
-text_after_all no_items text = text
-text_after_all (item d ds) text = text_after_all ds (text_after_one d text)
+abbrev pub text_after_all : PositionEncoding → Items → List ℕ → List ℕ
+text_after_all enc no_items text = text
+text_after_all enc (item d ds) text = text_after_all enc ds (text_after_one enc d text)
 
-abbrev pub text_after_any : Option Items → List ℕ → List ℕ
-text_after_any None text = text
-text_after_any (Some changes) text = text_after_all changes text
+abbrev pub text_after_any : PositionEncoding → Option Items → List ℕ → List ℕ
+text_after_any enc None text = text
+text_after_any enc (Some changes) text = text_after_all enc changes text
 
 -- the text after the changes of a message
-unfoldable pub text_after : Data → List ℕ → List ℕ
-text_after d text = text_after_any (option_and_then as_array (pointer (codes "/params/contentChanges") d)) text
+unfoldable pub text_after : PositionEncoding → Data → List ℕ → List ℕ
+text_after enc d text = text_after_any enc (option_and_then as_array (pointer (codes "/params/contentChanges") d)) text

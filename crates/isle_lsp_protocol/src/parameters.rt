@@ -8,7 +8,7 @@ ghost use Rattle.isle_lsp_protocol.specs.Parameters as wanted;
 
 use isle_lsp_frames::uris;
 use isle_lsp_text::changes::apply_change;
-use isle_lsp_text::positions::{Position, Range};
+use isle_lsp_text::positions::{Position, PositionEncoding, Range};
 use serde_json::Value;
 use std::alloc::{AllocError, Global};
 
@@ -211,6 +211,29 @@ pub fn watches_files(message: &Value) -> bool
     }
 }
 
+/// The encoding of positions in a session: UTF-8 if the client of an `initialize` offers it, and
+/// else UTF-16, which every client supports.
+pub fn encoding_of(message: &Value) -> PositionEncoding
+    ensures { result ≡ wanted.encoding_of (view message.now) }
+{
+    match array_at(message, "/params/capabilities/general/positionEncodings") {
+        Some(offered) if has_text(offered, "utf-8") => PositionEncoding::Utf8,
+        _ => PositionEncoding::Utf16,
+    }
+}
+
+/// Returns whether one of these values is this text.
+fn has_text(values: &[Value], text: &str) -> bool
+    ensures { result ≡ wanted.has_text text.now (items_view values.now) }
+{
+    for value in values {
+        if value.as_str() == Some(text) {
+            return true;
+        }
+    }
+    false
+}
+
 /// The URIs of the folders that the client of an `initialize` works in.
 ///
 /// Those of `workspaceFolders`; if there are none, `rootUri`, or else the URI of `rootPath`.
@@ -399,42 +422,57 @@ fn range_in(value: &Value) -> Option<Range>
 ///
 /// A change that does not follow the protocol is ignored.
 #[tactic(auto, unfolding(crate::specs::Parameters::text_after))]
-pub fn text_after(alloc: Global, message: &Value, text: &str) -> Result<String, AllocError>
+pub fn text_after(
+    alloc: Global,
+    encoding: PositionEncoding,
+    message: &Value,
+    text: &str,
+) -> Result<String, AllocError>
     ensures { IfOk result
-        (λ after. string_bytes after ≡ wanted.text_after (view message.now) text.now) }
+        (λ after. string_bytes after ≡ wanted.text_after encoding (view message.now) text.now) }
 {
     let changes = message
         .pointer("/params/contentChanges")
         .and_then(Value::as_array);
     match changes {
-        Some(changes) => text_after_all(alloc, changes, text),
+        Some(changes) => text_after_all(alloc, encoding, changes, text),
         None => String::from_str(alloc, text),
     }
 }
 
-fn text_after_all(alloc: Global, changes: &[Value], text: &str) -> Result<String, AllocError>
+fn text_after_all(
+    alloc: Global,
+    encoding: PositionEncoding,
+    changes: &[Value],
+    text: &str,
+) -> Result<String, AllocError>
     ensures { IfOk result (λ after. string_bytes after
-        ≡ wanted.text_after_all (items_view changes.now) text.now) }
+        ≡ wanted.text_after_all encoding (items_view changes.now) text.now) }
 {
     let mut after = String::from_str(alloc, text)?;
     for change in changes {
-        after = text_after_one(alloc, change, after)?;
+        after = text_after_one(alloc, encoding, change, after)?;
     }
     Ok(after)
 }
 
 #[tactic(auto, unfolding(crate::specs::Parameters::text_after_one))]
-fn text_after_one(alloc: Global, change: &Value, text: String) -> Result<String, AllocError>
+fn text_after_one(
+    alloc: Global,
+    encoding: PositionEncoding,
+    change: &Value,
+    text: String,
+) -> Result<String, AllocError>
     ensures { IfOk result (λ after. string_bytes after
-        ≡ wanted.text_after_one (view change.now) (string_bytes text)) }
+        ≡ wanted.text_after_one encoding (view change.now) (string_bytes text)) }
 {
     let Some(new) = change.get("text").and_then(Value::as_str) else {
         return Ok(text);
     };
     match change.get("range") {
-        None => apply_change(alloc, text.as_str(), None, new),
+        None => apply_change(alloc, encoding, text.as_str(), None, new),
         Some(value) => match range_in(value) {
-            Some(range) => apply_change(alloc, text.as_str(), Some(range), new),
+            Some(range) => apply_change(alloc, encoding, text.as_str(), Some(range), new),
             None => Ok(text),
         },
     }

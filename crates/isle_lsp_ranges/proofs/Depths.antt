@@ -18,6 +18,7 @@ use Rattle.isle_lsp_ranges.specs.LineEdits.{IsRangeFormatting, edit_data, edits_
 use Rattle.isle_lsp_ranges.specs.Selections.{AreSelections, grown, list_part, most, part as a_part, parts_around, selection, selection_at, word_at}
 use Rattle.std.proofs.lemmas.List.{length-take}
 use Rattle.std.proofs.Common.{nat_lt, if◌then◌else◌}
+use Rattle.isle_lsp_text.specs.declared.positions.PositionEncoding.{PositionEncoding}
 
 folds_shallow : (fold : Data) (start end : ℕ) → depth fold ≤ 2 → AreShallow 2 (folds fold start end)
 folds_shallow fold start end h = by_test (nat_lt start end) where
@@ -41,26 +42,26 @@ all_folds_shallow ends line after (c ∷ cs) =
 pub foldings_depth : (text : List ℕ) (d : Data) → AreFoldings text d → depth d ≤ 120
 foldings_depth text d f = at_most 120 d _ f.2 (omega (arith, items_shallow 2 (foldings text f.0) (all_folds_shallow (λ line. last_line (line_at text) line f.0) 0 false (comments text))))
 
-selection_depth : (text : List ℕ) (ps : List Part) → depth (selection text ps) ≤ length ps + 4
-selection_depth text [] = omega (arith, range_depth (range_between text 0 (length text)))
-selection_depth text (p ∷ ps) = omega (arith, range_depth (range_between text p.from p.to), selection_depth text ps)
+selection_depth : (enc : PositionEncoding) (text : List ℕ) (ps : List Part) → depth (selection enc text ps) ≤ length ps + 4
+selection_depth enc text [] = omega (arith, range_depth (range_between enc text 0 (length text)))
+selection_depth enc text (p ∷ ps) = omega (arith, range_depth (range_between enc text p.from p.to), selection_depth enc text ps)
 
-selection_at_depth : (text : List ℕ) (words : List Part) (lists : List ListSpan) (p : Position) → depth (selection_at text words lists p) ≤ 104
-selection_at_depth text words lists p =
-    let offset : ℕ = offset_at p text in
+selection_at_depth : (enc : PositionEncoding) (text : List ℕ) (words : List Part) (lists : List ListSpan) (p : Position) → depth (selection_at enc text words lists p) ≤ 104
+selection_at_depth enc text words lists p =
+    let offset : ℕ = offset_at enc p text in
     let all : List Part = grown (a_part 0 (length text)) (a_part offset offset) (word_at offset words ++ map list_part lists) in
-    omega (arith, length-take most all, selection_depth text (parts_around text words lists offset))
+    omega (arith, length-take most all, selection_depth enc text (parts_around text words lists offset))
 
-pub selections_depth : (text : List ℕ) (positions : List Position) (d : Data) → AreSelections text positions d → depth d ≤ 120
-selections_depth text positions d s =
-    at_most 120 d _ s.are (omega (arith, items_shallow 104 _ (map_shallow 104 (selection_at text s.words s.lists) positions (selection_at_depth text s.words s.lists))))
+pub selections_depth : (enc : PositionEncoding) (text : List ℕ) (positions : List Position) (d : Data) → AreSelections enc text positions d → depth d ≤ 120
+selections_depth enc text positions d s =
+    at_most 120 d _ s.are (omega (arith, items_shallow 104 _ (map_shallow 104 (selection_at enc text s.words s.lists) positions (selection_at_depth enc text s.words s.lists))))
 
-pub edits_depth : (old new : List ℕ) (es : List Edit) → depth (edits_data old new es) ≤ 120
-edits_depth old new es = omega (arith, items_shallow 4 _ (map_shallow 4 (edit_data old new) es (λ e. text_edit_depth (range_between old e.start e.end) (part new e.from e.to))))
+pub edits_depth : (enc : PositionEncoding) (old new : List ℕ) (es : List Edit) → depth (edits_data enc old new es) ≤ 120
+edits_depth enc old new es = omega (arith, items_shallow 4 _ (map_shallow 4 (edit_data enc old new) es (λ e. text_edit_depth (range_between enc old e.start e.end) (part new e.from e.to))))
 
-pub formatting_depth : (old new : List ℕ) (range : Range) (d : Data) → IsRangeFormatting old new range d → depth d ≤ 120
-formatting_depth old new range d f = at_most 120 d _ f.2 (edits_depth old new f.0)
+pub formatting_depth : (enc : PositionEncoding) (old new : List ℕ) (range : Range) (d : Data) → IsRangeFormatting enc old new range d → depth d ≤ 120
+formatting_depth enc old new range d f = at_most 120 d _ f.2 (edits_depth enc old new f.0)
 
-pub edits_shallow : (r : Result Value AllocError) (old new : List ℕ) (es : List Edit) → IfOk r (λ v. view v ≡ edits_data old new es) → IfOk r (λ v. depth (view v) ≤ 120)
-edits_shallow (Ok v) old new es h = at_most 120 (view v) _ h (edits_depth old new es)
-edits_shallow (Err e) old new es h = tt
+pub edits_shallow : (enc : PositionEncoding) (r : Result Value AllocError) (old new : List ℕ) (es : List Edit) → IfOk r (λ v. view v ≡ edits_data enc old new es) → IfOk r (λ v. depth (view v) ≤ 120)
+edits_shallow enc (Ok v) old new es h = at_most 120 (view v) _ h (edits_depth enc old new es)
+edits_shallow enc (Err e) old new es h = tt

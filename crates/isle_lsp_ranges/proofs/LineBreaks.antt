@@ -8,6 +8,8 @@ use Rattle.isle_lsp_text.specs.Positions.{ends_line, offset_from, position_from,
 use Rattle.isle_lsp_text.specs.declared.lists.ListSpan.{ListSpan}
 use Rattle.isle_lsp_text.proofs.Places.{o_line, o_nil, o_skip, p_zero, p_end, p_more}
 use Rattle.isle_lsp_ranges.specs.Foldings.{breaks, breaks_from, comments, folds_from, foldings, last_line, line_at, line_in}
+use Rattle.isle_lsp_text.specs.declared.positions.PositionEncoding.{PositionEncoding}
+use Rattle.isle_lsp_text.specs.declared.positions.PositionEncoding.TheVariants.{Utf16}
 
 -- ---- where lines begin
 
@@ -68,15 +70,15 @@ in_none at (b ∷ text) offset l = by_byte (ends_line b text) (in_none (at + 1) 
   by_byte true rest = in_cons (at + 1) (breaks_from (at + 1) text) offset ∙ grind (arith, nat_tests)
   by_byte false rest = rest
 
-at_nil : (line unit n : ℕ) → (position_from line unit n []).line ≡ line
+at_nil : (line unit n : ℕ) → (position_from Utf16 line unit n []).line ≡ line
 unfolding position_from
 at_nil line unit zero = refl
 at_nil line unit (suc n) = refl
 
-line_from : (line unit at n : ℕ) (text : List ℕ) → (position_from line unit n text).line ≡ line + line_in (breaks_from at text) (at + n)
+line_from : (line unit at n : ℕ) (text : List ℕ) → (position_from Utf16 line unit n text).line ≡ line + line_in (breaks_from at text) (at + n)
 line_from line unit at n [] = at_nil line unit n ∙ (let z : line + 0 ≡ line = omega arith in sym z)
 line_from line unit at zero (b ∷ text) =
-    ap (λ p. p.line) (p_zero line unit (b ∷ text)) ∙ (let z = in_none at (b ∷ text) (at + 0) (omega arith) in omega (arith, z))
+    ap (λ p. p.line) (p_zero Utf16 line unit (b ∷ text)) ∙ (let z = in_none at (b ∷ text) (at + 0) (omega arith) in omega (arith, z))
 line_from line unit at (suc n) (b ∷ text) =
     let shift : at + suc n ≡ at + 1 + n = omega arith in
     elim (cases_Bool (ends_line b text)) [
@@ -84,11 +86,11 @@ line_from line unit at (suc n) (b ∷ text) =
           let rest = line_from (line + 1) 0 (at + 1) n text in
           let one : nat_le (at + 1) (at + 1 + n) ≡ true = grind (arith, nat_tests) in
           let more : line_in ((at + 1) ∷ breaks_from (at + 1) text) (at + 1 + n) ≡ 1 + line_in (breaks_from (at + 1) text) (at + 1 + n) = in_cons (at + 1) (breaks_from (at + 1) text) (at + 1 + n) ∙ ap (λ v. cond v 1 0 + line_in (breaks_from (at + 1) text) (at + 1 + n)) one in
-          ap (λ p. p.line) (p_end line unit n b text e) ∙ rest
+          ap (λ p. p.line) (p_end Utf16 line unit n b text e) ∙ rest
           ∙ rw (e, shift) (omega (arith, more))
       | inr e ↦
-          let rest = line_from line (unit + unit_count b) (at + 1) n text in
-          ap (λ p. p.line) (p_more line unit n b text e) ∙ rest ∙ rw (e, shift) refl
+          let rest = line_from line (unit + unit_count Utf16 b) (at + 1) n text in
+          ap (λ p. p.line) (p_more Utf16 line unit n b text e) ∙ rest ∙ rw (e, shift) refl
     ]
 
 pub line_at_is : (text : List ℕ) (offset : ℕ) → line_at text offset ≡ line_in (breaks text) offset
@@ -147,11 +149,11 @@ last_line_next f l ls k old new all same other low inv =
     ]
 
 -- a line past the last one begins at the end of the text
-pub past_lines : (line unit : ℕ) (text : List ℕ) → length text ≤ line → offset_from line unit text ≡ length text
-past_lines line unit [] h = o_nil line unit
-past_lines zero unit (b ∷ text) h = absurd (omega arith)
-past_lines (suc line) unit (b ∷ text) h =
+pub past_lines : (enc : PositionEncoding) (line unit : ℕ) (text : List ℕ) → length text ≤ line → offset_from enc line unit text ≡ length text
+past_lines enc line unit [] h = o_nil enc line unit
+past_lines enc zero unit (b ∷ text) h = absurd (omega arith)
+past_lines enc (suc line) unit (b ∷ text) h =
     elim (cases_Bool (ends_line b text)) [
-      | inl e ↦ o_line line unit b text e ∙ ap suc (past_lines line unit text (omega arith))
-      | inr e ↦ o_skip line unit b text e ∙ ap suc (past_lines (suc line) unit text (omega arith))
+      | inl e ↦ o_line enc line unit b text e ∙ ap suc (past_lines enc line unit text (omega arith))
+      | inr e ↦ o_skip enc line unit b text e ∙ ap suc (past_lines enc (suc line) unit text (omega arith))
     ]

@@ -5,6 +5,7 @@ use Rattle.isle_base.specs.Bytes.{semicolon, space, tab}
 use Rattle.isle_lsp_text.specs.Lists.{AreLists}
 use Rattle.isle_lsp_text.specs.Positions.{ends_line, position_at}
 use Rattle.isle_lsp_text.specs.declared.lists.ListSpan.{ListSpan}
+use Rattle.isle_lsp_text.specs.declared.positions.PositionEncoding.TheVariants.{Utf16}
 use Rattle.serde_json.specs.Data.{Data, array, member, no_members, number, object, string, unsigned}
 use Rattle.serde_json.specs.View.{items_of}
 
@@ -16,9 +17,9 @@ breaks_from at (b ∷ bytes) = if ends_line b bytes then (at + 1) ∷ breaks_fro
 abbrev pub breaks : List ℕ → List ℕ
 breaks text = breaks_from 0 text
 
--- the line of an offset
+-- the line of an offset, which is one in every encoding
 abbrev pub line_at : List ℕ → (offset : ℕ) → ℕ
-line_at text offset = (position_at offset text).line
+line_at text offset = (position_at Utf16 offset text).line
 
 -- whether a line is a comment that begins with these bytes: the first one that is no space or tab is a `;`
 abbrev pub is_comment : List ℕ → Bool

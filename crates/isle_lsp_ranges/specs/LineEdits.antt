@@ -8,6 +8,7 @@ use Rattle.isle_lsp_text.specs.declared.edits.Edit.{Edit}
 use Rattle.isle_lsp_text.specs.declared.positions.Range.{Range}
 use Rattle.serde_json.specs.Data.{Data, array}
 use Rattle.serde_json.specs.View.{items_of}
+use Rattle.isle_lsp_text.specs.declared.positions.PositionEncoding.{PositionEncoding}
 
 -- An edit replaces one line of the old text, or nothing, by other lines of the new text, or by nothing.
 pub record IsLineEdit (old new : List ℕ) (e : Edit) : Type 0 where
@@ -39,27 +40,27 @@ abbrev pub AreEditsWithin : (old new : List ℕ) → (from to : ℕ) → List Ed
 AreEditsWithin old new from to within = (es : List Edit) × TurnByLines old new es × (within ≡ filter (is_within from to) es)
 
 -- an edit, at its range of the old text
-abbrev pub edit_data : (old new : List ℕ) → Edit → Data
-edit_data old new e = text_edit (range_between old e.start e.end) (part new e.from e.to)
+abbrev pub edit_data : PositionEncoding → (old new : List ℕ) → Edit → Data
+edit_data enc old new e = text_edit (range_between enc old e.start e.end) (part new e.from e.to)
 
-abbrev pub edits_data : (old new : List ℕ) → List Edit → Data
-edits_data old new es = array (items_of (map (edit_data old new) es))
+abbrev pub edits_data : PositionEncoding → (old new : List ℕ) → List Edit → Data
+edits_data enc old new es = array (items_of (map (edit_data enc old new) es))
 
 -- the line after the lines of a range; a range that ends where a line begins, behind the one that it begins on, has nothing of that line
 abbrev pub line_after : Range → ℕ
 line_after range = if range.end.unit == 0 && nat_lt range.start.line range.end.line then range.end.line else range.end.line + 1
 
 -- where the lines of a range begin and end
-abbrev pub lines_start : List ℕ → Range → ℕ
-lines_start text range = offset_at (position range.start.line 0) text
+abbrev pub lines_start : PositionEncoding → List ℕ → Range → ℕ
+lines_start enc text range = offset_at enc (position range.start.line 0) text
 
-abbrev pub lines_end : List ℕ → Range → ℕ
-lines_end text range = offset_at (position (line_after range) 0) text
+abbrev pub lines_end : PositionEncoding → List ℕ → Range → ℕ
+lines_end enc text range = offset_at enc (position (line_after range) 0) text
 
 -- These are the edits that format the lines of a range: those within them of the edits that turn the whole text into the new one.
-abbrev pub IsRangeFormatting : (old new : List ℕ) → Range → Data → Type 0
-IsRangeFormatting old new range d =
-    (es : List Edit) × AreEditsWithin old new (lines_start old range) (lines_end old range) es × (d ≡ edits_data old new es)
+abbrev pub IsRangeFormatting : PositionEncoding → (old new : List ℕ) → Range → Data → Type 0
+IsRangeFormatting enc old new range d =
+    (es : List Edit) × AreEditsWithin old new (lines_start enc old range) (lines_end enc old range) es × (d ≡ edits_data enc old new es)
 
 -- ---- a walk over the lines of both texts
 

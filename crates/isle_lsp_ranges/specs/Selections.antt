@@ -12,6 +12,7 @@ use Rattle.isle_lsp_text.specs.declared.positions.Range.{Range}
 use Rattle.isle_lsp_text.specs.declared.wholes.Part.{Part}
 use Rattle.serde_json.specs.Data.{Data, array, member, no_members, object}
 use Rattle.serde_json.specs.View.{items_of}
+use Rattle.isle_lsp_text.specs.declared.positions.PositionEncoding.{PositionEncoding}
 
 abbrev pub part : (from to : ℕ) → Part
 part from to = record { from = from; to = to }
@@ -75,17 +76,17 @@ abbrev pub growing : Range → Data → Data
 growing range parent = object (member (codes "parent") parent (member (codes "range") (range_data range) no_members))
 
 -- the innermost of these parts, and around it the others in turn, and around them all the whole text
-abbrev pub selection : List ℕ → List Part → Data
-selection text [] = object (member (codes "range") (range_data (range_between text 0 (length text))) no_members)
-selection text (p ∷ ps) = growing (range_between text p.from p.to) (selection text ps)
+abbrev pub selection : PositionEncoding → List ℕ → List Part → Data
+selection enc text [] = object (member (codes "range") (range_data (range_between enc text 0 (length text))) no_members)
+selection enc text (p ∷ ps) = growing (range_between enc text p.from p.to) (selection enc text ps)
 
-abbrev pub selection_at : List ℕ → (words : List Part) → List ListSpan → Position → Data
-selection_at text words lists p = selection text (parts_around text words lists (offset_at p text))
+abbrev pub selection_at : PositionEncoding → List ℕ → (words : List Part) → List ListSpan → Position → Data
+selection_at enc text words lists p = selection enc text (parts_around text words lists (offset_at enc p text))
 
 -- These are the selections from positions in a text, one for each.
-pub record AreSelections (text : List ℕ) (positions : List Position) (d : Data) : Type 0 where
+pub record AreSelections (enc : PositionEncoding) (text : List ℕ) (positions : List Position) (d : Data) : Type 0 where
   pub words : List Part
   pub lists : List ListSpan
   pub are_words : AreWords text words
   pub are_lists : AreLists text lists
-  pub are : d ≡ array (items_of (map (selection_at text words lists) positions))
+  pub are : d ≡ array (items_of (map (selection_at enc text words lists) positions))

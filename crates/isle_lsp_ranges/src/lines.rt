@@ -12,7 +12,9 @@ ghost use Rattle.isle_lsp_ranges.specs.LineEdits.{edit_data, edits_data, is_with
 
 use isle_lsp_protocol::results::text_edit;
 use isle_lsp_text::edits::{Edit, next_line, replacement};
-use isle_lsp_text::positions::{Place, Position, Range, START, offset_of, place_at};
+use isle_lsp_text::positions::{
+    Place, Position, PositionEncoding, Range, START, offset_of, place_at,
+};
 use serde_json::Value;
 use std::alloc::{AllocError, Global};
 
@@ -22,39 +24,41 @@ use std::alloc::{AllocError, Global};
 /// A range that ends at the start of a line has nothing of that line, unless it begins there.
 pub fn range_formatting(
     alloc: Global,
+    encoding: PositionEncoding,
     old: &str,
     new: &str,
     range: Range,
 ) -> Result<Value, AllocError>
     ensures edits { IfOk result
-        (λ value. IsRangeFormatting old.now new.now range (view value)) }
+        (λ value. IsRangeFormatting encoding old.now new.now range (view value)) }
     ensures shallow { IfOk result (λ value. depth (view value) ≤ 120) }
 {
     let from = offset_of(
+        encoding,
         old,
         Position {
             line: range.start.line,
             unit: 0,
         },
     );
-    let to = lines_end(old, range);
+    let to = lines_end(encoding, old, range);
     let edits = line_edits_within(alloc, old, new, from, to)?;
-    edits_value(alloc, old, new, &edits)
+    edits_value(alloc, encoding, old, new, &edits)
 }
 
 /// The byte offset after the lines of a range, and after the end of the last one.
-fn lines_end(text: &str, range: Range) -> usize
-    ensures { result ≡ lines_end text.now range }
+fn lines_end(encoding: PositionEncoding, text: &str, range: Range) -> usize
+    ensures { result ≡ lines_end encoding text.now range }
 {
     if range.end.unit == 0 && range.start.line < range.end.line {
-        return offset_of(text, range.end);
+        return offset_of(encoding, text, range.end);
     }
     // Each line but the last one has a byte at least, so the next line is past the last one.
     if range.end.line >= text.len() {
         return text.len();
     }
     let line = range.end.line + 1;
-    offset_of(text, Position { line, unit: 0 })
+    offset_of(encoding, text, Position { line, unit: 0 })
 }
 
 /// The edits within a part of the old text, of edits that turn the whole text into the new one line
@@ -178,15 +182,21 @@ fn is_changed(old: &[u8], new: &[u8], edit: Edit) -> bool
 }
 
 /// Edits as JSON, each at its range of the old text, in the order of their places.
-pub fn edits_value(alloc: Global, old: &str, new: &str, edits: &[Edit]) -> Result<Value, AllocError>
+pub fn edits_value(
+    alloc: Global,
+    encoding: PositionEncoding,
+    old: &str,
+    new: &str,
+    edits: &[Edit],
+) -> Result<Value, AllocError>
     requires { (i : ℕ) (d : texts.Edit) → i < length edits.now
         → IsEdit old.now new.now (slice_index_or edits.now i d) }
-    ensures { IfOk result (λ value. view value ≡ edits_data old.now new.now edits.now) }
+    ensures { IfOk result (λ value. view value ≡ edits_data encoding old.now new.now edits.now) }
 {
     let mut values = Vec::new(alloc);
     let mut place = START;
     for edit in edits {
-        let (value, end) = edit_value(alloc, old, new, *edit, place)?;
+        let (value, end) = edit_value(alloc, encoding, old, new, *edit, place)?;
         values.push(value)?;
         place = end;
     }
@@ -196,18 +206,19 @@ pub fn edits_value(alloc: Global, old: &str, new: &str, edits: &[Edit]) -> Resul
 /// An edit as JSON, and the place where its range ends.
 fn edit_value(
     alloc: Global,
+    encoding: PositionEncoding,
     old: &str,
     new: &str,
     edit: Edit,
     nearby: Place,
 ) -> Result<(Value, Place), AllocError>
     requires edit { IsEdit old.now new.now edit }
-    requires nearby { IsPlace old.now nearby }
-    ensures value { IfOk result (λ made. view made.0 ≡ edit_data old.now new.now edit) }
-    ensures place { IfOk result (λ made. IsPlace old.now made.1) }
+    requires nearby { IsPlace encoding old.now nearby }
+    ensures value { IfOk result (λ made. view made.0 ≡ edit_data encoding old.now new.now edit) }
+    ensures place { IfOk result (λ made. IsPlace encoding old.now made.1) }
 {
-    let start = place_at(old, nearby, edit.start);
-    let end = place_at(old, start, edit.end);
+    let start = place_at(encoding, old, nearby, edit.start);
+    let end = place_at(encoding, old, start, edit.end);
     let range = Range {
         start: start.position,
         end: end.position,

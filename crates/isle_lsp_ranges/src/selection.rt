@@ -10,7 +10,7 @@ ghost use Rattle.isle_lsp_ranges.specs.Selections.{parts_around, selection};
 use crate::words::{word_at, words};
 use isle_lsp_protocol::results::range_value;
 use isle_lsp_text::lists::{ListSpan, lists};
-use isle_lsp_text::positions::{Position, Range, START, offset_of};
+use isle_lsp_text::positions::{Position, PositionEncoding, Range, START, offset_of};
 use isle_lsp_text::ranges::range_between;
 use isle_lsp_text::wholes::Part;
 use serde_json::{Value, json};
@@ -27,20 +27,21 @@ const MOST: usize = 100;
 /// Each has more in it than the one before. Of the words and lists at most 100 are given.
 pub fn selection_ranges(
     alloc: Global,
+    encoding: PositionEncoding,
     text: &str,
     positions: &[Position],
 ) -> Result<Value, AllocError>
     ensures selections { IfOk result
-        (λ value. AreSelections text.now positions.now (view value)) }
+        (λ value. AreSelections encoding text.now positions.now (view value)) }
     ensures shallow { IfOk result (λ value. depth (view value) ≤ 120) }
 {
     let words = words(alloc, text)?;
     let lists = lists(alloc, text)?;
     let mut values = Vec::new(alloc);
     for position in positions {
-        let offset = offset_of(text, *position);
+        let offset = offset_of(encoding, text, *position);
         let parts = parts_around(alloc, text, &words, &lists, offset)?;
-        values.push(selection(alloc, text, &parts)?)?;
+        values.push(selection(alloc, encoding, text, &parts)?)?;
     }
     Ok(Value::Array(values))
 }
@@ -103,26 +104,34 @@ fn exceeds(outer: Part, inner: Part) -> bool
 
 /// The innermost of these parts, and around it the others in turn, and around them all the whole
 /// text.
-fn selection(alloc: Global, text: &str, parts: &[Part]) -> Result<Value, AllocError>
-    ensures { IfOk result (λ value. view value ≡ selection text.now parts.now) }
+fn selection(
+    alloc: Global,
+    encoding: PositionEncoding,
+    text: &str,
+    parts: &[Part],
+) -> Result<Value, AllocError>
+    ensures { IfOk result (λ value. view value ≡ selection encoding text.now parts.now) }
 {
     let mut near = START;
-    let mut value = whole(alloc, text)?;
+    let mut value = whole(alloc, encoding, text)?;
     let mut left = parts.len();
     while left > 0 {
         left -= 1;
-        let range = range_between(text, &mut near, parts[left].from, parts[left].to);
+        let range = range_between(encoding, text, &mut near, parts[left].from, parts[left].to);
         value = growing(alloc, range, value)?;
     }
     Ok(value)
 }
 
 /// The whole text.
-fn whole(alloc: Global, text: &str) -> Result<Value, AllocError>
-    ensures { IfOk result (λ value. view value ≡ selection text.now []) }
+fn whole(alloc: Global, encoding: PositionEncoding, text: &str) -> Result<Value, AllocError>
+    ensures { IfOk result (λ value. view value ≡ selection encoding text.now []) }
 {
     let mut near = START;
-    let range = range_value(alloc, range_between(text, &mut near, 0, text.len()))?;
+    let range = range_value(
+        alloc,
+        range_between(encoding, text, &mut near, 0, text.len()),
+    )?;
     json!(in alloc; {"range": range})
 }
 

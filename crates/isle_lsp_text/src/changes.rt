@@ -4,7 +4,7 @@ ghost use Rattle.std.specs.Prelude.{◌≡◌, ◌≤◌, IfOk, string_bytes};
 ghost use Rattle.std.specs.Str.{IsCharBoundary};
 ghost use Rattle.isle_lsp_text.specs.Changes.{apply_change, splice};
 
-use crate::positions::{Range, offset_of};
+use crate::positions::{PositionEncoding, Range, offset_of};
 use std::alloc::{AllocError, Global};
 
 /// Applies a change: the new text replaces the range or, if there is none, the whole text.
@@ -12,16 +12,18 @@ use std::alloc::{AllocError, Global};
 /// A range that ends before it begins is read the other way round.
 pub fn apply_change(
     alloc: Global,
+    encoding: PositionEncoding,
     text: &str,
     range: Option<Range>,
     new: &str,
 ) -> Result<String, AllocError>
-    ensures { IfOk result (λ after. string_bytes after ≡ apply_change text.now range new.now) }
+    ensures { IfOk result
+        (λ after. string_bytes after ≡ apply_change encoding text.now range new.now) }
 {
     match range {
         Some(range) => {
-            let start = offset_of(text, range.start);
-            let end = offset_of(text, range.end);
+            let start = offset_of(encoding, text, range.start);
+            let end = offset_of(encoding, text, range.end);
             splice(alloc, text, start.min(end), start.max(end), new)
         }
         None => String::from_str(alloc, new),

@@ -81,8 +81,8 @@
 //! - `index_candidates OFFSET FROM PREFIX`: the names that may be written there and begin with the
 //!   prefix, with the variables from FROM on
 //! - `index_can_rename OFFSET`: whether the name there can be renamed at all
-//! - `index_rename OFFSET NAME`: the places that change when the name there is renamed, or why it
-//!   can't be renamed
+//! - `index_rename OFFSET NAME`: the places that change when the name there is renamed, each with
+//!   `>` and how many bytes stay in front of what changes if some do, or why it can't be renamed
 //!
 //! Any other call is about the tree of `FILE READ TEXT`, or, with a name that begins with `built`,
 //! about that of `KIND NUMBER.. WORD..`, as `isle_test_syntax` has them:

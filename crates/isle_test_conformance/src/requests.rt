@@ -134,7 +134,8 @@ fn put_candidates(
     Ok(())
 }
 
-/// Adds a name with the places that change when it is renamed, or why it can't be renamed.
+/// Adds a name with the places that change when it is renamed, and behind `>` how many bytes of the
+/// name stay there in front of what changes, if some do, or why it can't be renamed.
 fn put_renamed(
     alloc: Global,
     index: &Index,
@@ -145,14 +146,24 @@ fn put_renamed(
     match index.rename(alloc, name, new)? {
         Ok(places) => {
             put_name(name, out);
+            let part = index.part_of(alloc, name)?;
             for place in &places {
                 out.put(" ");
                 out.show(&place.offset);
+                put_front(part.front_len(*place), out);
             }
         }
         Err(refusal) => out.put(refusal_word(refusal)),
     }
     Ok(())
+}
+
+/// Adds how many bytes of a name stay in front of what changes, if some do.
+fn put_front(len: usize, out: &mut Answer) {
+    if len > 0 {
+        out.put(">");
+        out.show(&len);
+    }
 }
 
 /// The word for the kind of a name.

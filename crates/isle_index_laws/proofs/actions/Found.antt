@@ -5,7 +5,7 @@ use Rattle.isle_base.specs.Bytes.{underscore}
 use Rattle.isle_base.specs.Lexing.{Lexes}
 use Rattle.isle_base.specs.Token.{Ending, Lexeme, Tok, at_sign, integer, lparen, rparen, symbol}
 use Rattle.isle_base.proofs.Complete.{Skip-le, Spelling-shorter}
-use Rattle.isle_index_laws.specs.RenamedTokens.{with_new_front}
+use Rattle.isle_index_laws.specs.RenamedTokens.{with_new_text}
 use Rattle.isle_lsp_actions.specs.Names.{Name, name_at, named, names_of}
 use Rattle.isle_index_laws.specs.actions.Prefixed.{moved, prefixed, with_underscore}
 use Rattle.isle_index_laws.proofs.edits.Lexed.{Written, later, shifted, starts}
@@ -30,13 +30,17 @@ marks at offset = offset == at
 abbrev pub mark : List ℕ
 mark = underscore ∷ []
 
+-- no bytes of a name stay in front of the mark
+abbrev pub no_lead : ℕ → List ℕ
+no_lead offset = []
+
 abbrev lexeme : ℕ → Tok → ℕ → Lexeme
 lexeme offset token after = record { offset = offset; token = token; after = after }
 
 same_lexeme : (o p : ℕ) (t u : Tok) (a b : ℕ) → o ≡ p → t ≡ u → a ≡ b → lexeme o t a ≡ lexeme p u b
 same_lexeme o p t u a b e f g = ap (λ n. lexeme n t a) e ∙ ap (λ v. lexeme p v a) f ∙ ap (λ n. lexeme p u n) g
 
-same_token : (t : Tok) → with_new_front [] mark t ≡ with_underscore t
+same_token : (t : Tok) → with_new_text 0 [] mark t ≡ with_underscore t
 same_token lparen = refl
 same_token rparen = refl
 same_token (symbol name) = refl
@@ -54,9 +58,9 @@ not_marked at offset less = ne_eqb offset at (λ e. omega arith)
 
 -- a token and the later ones, where this says whether it is at the offset
 later_step : (T : List ℕ) (at k : ℕ) (x : Lexeme) (xs : List Lexeme) (b : Bool) → marks at x.offset ≡ b →
-    later T (marks at) false [] mark k (x ∷ xs)
-    ≡ lexeme (shifted T (marks at) false [] mark k x.offset) (cond b (with_new_front [] mark x.token) x.token) (shifted T (marks at) false [] mark (k + cond b 1 0) x.after)
-    ∷ later T (marks at) false [] mark (k + cond b 1 0) xs
+    later T (marks at) no_lead [] mark k (x ∷ xs)
+    ≡ lexeme (shifted T (marks at) no_lead [] mark k x.offset) (cond b (with_new_text 0 [] mark x.token) x.token) (shifted T (marks at) no_lead [] mark (k + cond b 1 0) x.after)
+    ∷ later T (marks at) no_lead [] mark (k + cond b 1 0) xs
 later_step T at k x xs true e = rw e refl
 later_step T at k x xs false e = rw e refl
 
@@ -65,15 +69,15 @@ prefixed_is at x b e = ap (λ c. lexeme (moved at x.offset) (if c then with_unde
 
 -- ---- tokens behind an offset
 
-none_started : (at n : ℕ) (xs : List Lexeme) → at < n → Chain n xs → starts (marks at) false xs ≡ []
+none_started : (at n : ℕ) (xs : List Lexeme) → at < n → Chain n xs → starts (marks at) no_lead xs ≡ []
 none_started at n [] less c = refl
 none_started at n (x ∷ xs) less c =
     let low = c.0 in
     let some = c.1 in
-    ap (λ b. cond b ((x.offset + 0) ∷ starts (marks at) false xs) (starts (marks at) false xs)) (not_marked at x.offset (omega arith))
+    ap (λ b. cond b ((x.offset + 0) ∷ starts (marks at) no_lead xs) (starts (marks at) no_lead xs)) (not_marked at x.offset (omega arith))
     ∙ none_started at x.after xs (omega arith) c.2
 
-none_written : (T : List ℕ) (at n : ℕ) (xs : List Lexeme) → at < n → Chain n xs → Written T (marks at) false [] mark xs
+none_written : (T : List ℕ) (at n : ℕ) (xs : List Lexeme) → at < n → Chain n xs → Written T (marks at) no_lead [] mark xs
 none_written T at n [] less c = tt
 none_written T at n (x ∷ xs) less c =
     let low = c.0 in
@@ -81,7 +85,7 @@ none_written T at n (x ∷ xs) less c =
     let off : marks at x.offset ≡ false = not_marked at x.offset (omega arith) in
     (λ on. absurd (let never : true ≡ false = sym on ∙ off in cc), none_written T at x.after xs (omega arith) c.2)
 
-all_moved : (T : List ℕ) (at n : ℕ) (xs : List Lexeme) → at < n → Chain n xs → later T (marks at) false [] mark 1 xs ≡ map (prefixed at) xs
+all_moved : (T : List ℕ) (at n : ℕ) (xs : List Lexeme) → at < n → Chain n xs → later T (marks at) no_lead [] mark 1 xs ≡ map (prefixed at) xs
 all_moved T at n [] less c = refl
 all_moved T at n (x ∷ xs) less c =
     let low = c.0 in
@@ -91,7 +95,7 @@ all_moved T at n (x ∷ xs) less c =
     let ends = moved_behind at x.after (omega arith) in
     let same = same_lexeme _ (moved at x.offset) x.token x.token _ (moved at x.after) (omega arith) refl (omega arith) ∙ sym (prefixed_is at x false off) in
     later_step T at 1 x xs false off
-    ∙ ap (λ y. y ∷ later T (marks at) false [] mark 1 xs) same
+    ∙ ap (λ y. y ∷ later T (marks at) no_lead [] mark 1 xs) same
     ∙ ap (λ ys. prefixed at x ∷ ys) (all_moved T at x.after xs (omega arith) c.2)
 
 -- ---- names
@@ -129,9 +133,9 @@ not_before at n xs name c is (inr le) = le
 
 -- one of the tokens is a name that begins at the offset
 pub record Found (T : List ℕ) (at : ℕ) (xs : List Lexeme) : Type 0 where
-  pub started : starts (marks at) false xs ≡ at ∷ []
-  pub written : Written T (marks at) false [] mark xs
-  pub moves : later T (marks at) false [] mark 0 xs ≡ map (prefixed at) xs
+  pub started : starts (marks at) no_lead xs ≡ at ∷ []
+  pub written : Written T (marks at) no_lead [] mark xs
+  pub moves : later T (marks at) no_lead [] mark 0 xs ≡ map (prefixed at) xs
 
 found_by : (T : List ℕ) (at n : ℕ) (x : Lexeme) (xs : List Lexeme) (name : List ℕ) → Chain n (x ∷ xs) → name_at at (names_of (x ∷ xs)) ≡ Some name
     → (name_at at (names_of xs) ≡ Some name → Found T at xs) → (b : Bool) → marks at x.offset ≡ b → Found T at (x ∷ xs)
@@ -142,13 +146,13 @@ found_by T at n x xs name c is more true on =
     let symbol_here = named_here x.token at x.offset (names_of xs) name (none_named at x.after xs less c.2) is in
     let begins = moved_before at x.offset (omega arith) in
     let ends = moved_behind at x.after less in
-    let same = same_lexeme _ (moved at x.offset) (with_new_front [] mark x.token) (with_underscore x.token) _ (moved at x.after) (omega arith) (same_token x.token) (omega arith)
+    let same = same_lexeme _ (moved at x.offset) (with_new_text 0 [] mark x.token) (with_underscore x.token) _ (moved at x.after) (omega arith) (same_token x.token) (omega arith)
     ∙ sym (prefixed_is at x true on) in
     record {
-      started = ap (λ b. cond b ((x.offset + 0) ∷ starts (marks at) false xs) (starts (marks at) false xs)) on
+      started = ap (λ b. cond b ((x.offset + 0) ∷ starts (marks at) no_lead xs) (starts (marks at) no_lead xs)) on
           ∙ ap (λ os. (x.offset + 0) ∷ os) (none_started at x.after xs less c.2) ∙ ap (λ o. o ∷ []) (omega arith);
       written = (λ _. symbol_here, none_written T at x.after xs less c.2);
-      moves = later_step T at 0 x xs true on ∙ ap (λ y. y ∷ later T (marks at) false [] mark 1 xs) same
+      moves = later_step T at 0 x xs true on ∙ ap (λ y. y ∷ later T (marks at) no_lead [] mark 1 xs) same
           ∙ ap (λ ys. prefixed at x ∷ ys) (all_moved T at x.after xs less c.2);
     }
 found_by T at n x xs name c is more false off =
@@ -160,9 +164,9 @@ found_by T at n x xs name c is more false off =
     let ends = moved_before at x.after behind in
     let same = same_lexeme _ (moved at x.offset) x.token x.token _ (moved at x.after) (omega arith) refl (omega arith) ∙ sym (prefixed_is at x false off) in
     record {
-      started = ap (λ b. cond b ((x.offset + 0) ∷ starts (marks at) false xs) (starts (marks at) false xs)) off ∙ rest.started;
+      started = ap (λ b. cond b ((x.offset + 0) ∷ starts (marks at) no_lead xs) (starts (marks at) no_lead xs)) off ∙ rest.started;
       written = (λ on. absurd (let never : true ≡ false = sym on ∙ off in cc), rest.written);
-      moves = later_step T at 0 x xs false off ∙ ap (λ y. y ∷ later T (marks at) false [] mark 0 xs) same ∙ ap (λ ys. prefixed at x ∷ ys) rest.moves;
+      moves = later_step T at 0 x xs false off ∙ ap (λ y. y ∷ later T (marks at) no_lead [] mark 0 xs) same ∙ ap (λ ys. prefixed at x ∷ ys) rest.moves;
     }
 
 pub found : (T : List ℕ) (at n : ℕ) (xs : List Lexeme) (name : List ℕ) → Chain n xs → name_at at (names_of xs) ≡ Some name → Found T at xs

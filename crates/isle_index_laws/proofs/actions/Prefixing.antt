@@ -16,7 +16,7 @@ use Rattle.isle_lsp_actions.specs.Insertions.{is_apart, is_apart_from, is_mark, 
 use Rattle.isle_lsp_actions.specs.Names.{count_in, name_at, names_of}
 use Rattle.isle_lsp_actions.specs.declared.told.Told.{Told}
 use Rattle.isle_index_laws.specs.actions.Prefixed.{IsPrefixed, acted, prefixed}
-use Rattle.isle_index_laws.proofs.actions.Found.{chain, found, mark, marks}
+use Rattle.isle_index_laws.proofs.actions.Found.{chain, found, mark, marks, no_lead}
 use Rattle.isle_lsp_text.specs.Numbers.{ends_number, ends_number_at, is_behind_number}
 use Rattle.isle_lsp_text.specs.declared.lists.ListSpan.{ListSpan}
 use Rattle.isle_index_laws.specs.edits.Edits.{edited}
@@ -49,7 +49,7 @@ behind_none text (suc n) apart =
     ∙ ap (λ m. ends_number_at (slice_get text m)) before
     ∙ behind_none_by text n apart (cases_lt (length text) (suc n))
 
-none_glued : (text : List ℕ) (at : ℕ) → stands_apart text at ≡ true → Apart text (marks at) false [] mark
+none_glued : (text : List ℕ) (at : ℕ) → stands_apart text at ≡ true → Apart text (marks at) no_lead [] mark
 none_glued text at apart = λ offset on.
     let here : offset ≡ at = eqb-true offset at on in
     let there : offset + 0 ≡ at = omega arith in
@@ -63,7 +63,7 @@ one_prefixed : (text : List ℕ) (tokens : List Lexeme) (t : Told) (name : List 
     → stands_apart text t.from ≡ true → IsPrefixed text tokens (prefix_of t name)
 one_prefixed text tokens t name lexed named apart =
     let f = found text t.from (length text - length text) tokens name (chain (length text) text tokens end lexed (omega arith)) named in
-    let e = edits_lex text (marks t.from) false [] mark (none_glued text t.from apart) front [] text tokens refl lexed f.written in
+    let e = edits_lex text (marks t.from) no_lead [] mark (none_glued text t.from apart) front (λ offset. tt) [] text tokens refl lexed f.written in
     let other : acted (prefix_of t name) text ≡ e.other = sym (ap (λ os. edited [] mark os text) f.started) ∙ e.edits in
     let grows = e.grows in
     let lexes_other : Lexes (length e.other) e.other (map (prefixed t.from) tokens) end =

@@ -24,11 +24,11 @@ use Rattle.isle_resolve.specs.Event.{EventNode}
 use Rattle.isle_resolve.specs.Events.{events}
 use Rattle.isle_resolve.specs.Mapped.{map_definitions}
 use Rattle.isle_resolve.specs.Names.{NameNode, name_text}
-use Rattle.isle_index.specs.Renamed.{are_apart, places_of, replaced, same_place}
-use Rattle.isle_index.specs.Renaming.{IsAccepted, changed_places, changes, is_new_name, members, position}
+use Rattle.isle_index.specs.Renamed.{are_apart, front, places_of, replaced, same_place}
+use Rattle.isle_index.specs.Renaming.{IsAccepted, Part, changed_places, changes, is_new_name, members, part_of, part_text, position}
 use Rattle.isle_resolve.specs.Scopes.{SeenNode, seen}
 use Rattle.isle_index.proofs.Texts.{or-left, or-right}
-use Rattle.isle_index_laws.specs.RenamedTokens.{as_written, is_constant, positions, renamed_tokens}
+use Rattle.isle_index_laws.specs.RenamedTokens.{as_written, is_constant, lead, positions, renamed_tokens}
 use Rattle.isle_index_laws.specs.SpeltTexts.{AreSpelt, AreSpeltWith, SpeltText, definitions_of}
 use Rattle.isle_index_laws.proofs.Apart.{events_of_both, names_at, none_elsewhere, program_apart, text_names, tokens_apart}
 use Rattle.isle_index_laws.proofs.Marks.{events_at, one_if}
@@ -117,16 +117,19 @@ in_it file (x ∷ xs) t (inl is) = ap (λ u. u.pos.file) (sym is)
 in_it file (x ∷ xs) t (inr later) = in_it file xs t later
 
 -- at each position of the file stands an event of its text
-abbrev pub Stand : Bool → List ℕ → List Pos → ℕ → List EventNode → Type 0
-Stand c old places file es = (p : Pos) → list_any (same_place p) places ≡ true → p.file ≡ file → AnyNamed c old p es
+abbrev pub Stand : Bool → Part → List Pos → ℕ → List EventNode → Type 0
+Stand c part places file es = (p : Pos) → list_any (same_place p) places ≡ true → p.file ≡ file → AnyNamed c part p es
 
-begins : (c : Bool) (old : List ℕ) (n : Name) (t : Placed) → t ≡ written c n → (behind : List ℕ) × (n.text ≡ old ++ behind) → BeginsWith (as_written c old) t.token
-begins true old n t is b = (b.0, ap (λ u. u.token) is ∙ ap (λ text. symbol (as_written true text)) b.1)
-begins false old n t is b = (b.0, ap (λ u. u.token) is ∙ ap (λ text. symbol text) b.1)
+pub written_both : (c : Bool) (stay old behind : List ℕ) → as_written c ((stay ++ old) ++ behind) ≡ (as_written c stay ++ old) ++ behind
+written_both true stay old behind = refl
+written_both false stay old behind = refl
 
-are_named : (file : ℕ) (places : List Pos) (given : NameNode) (ds : List Definition) (xs : List Lexeme) → SpellsDefinitions ds (placed (in_file file) xs) → are_apart (positions (placed (in_file file) xs)) ≡ true →
-    Stand (is_constant given) (name_text given) places file (events ds) → AreNamed file places given (placed (in_file file) xs)
-are_named file places given ds xs h away stand =
+begins : (c : Bool) (stay old : List ℕ) (n : Name) (t : Placed) → t ≡ written c n → (behind : List ℕ) × (n.text ≡ (stay ++ old) ++ behind) → BeginsWith (as_written c stay ++ old) t.token
+begins c stay old n t is b = (b.0, ap (λ u. u.token) is ∙ ap (λ text. symbol (as_written c text)) b.1 ∙ ap symbol (written_both c stay old b.0))
+
+are_named : (file : ℕ) (places : List Pos) (given : NameNode) (part : Part) (ds : List Definition) (xs : List Lexeme) → SpellsDefinitions ds (placed (in_file file) xs) → are_apart (positions (placed (in_file file) xs)) ≡ true →
+    Stand (is_constant given) part places file (events ds) → AreNamed file places given part (placed (in_file file) xs)
+are_named file places given part ds xs h away stand =
     let ts : List Placed = placed (in_file file) xs in
     let c : Bool = is_constant given in
     record {
@@ -135,23 +138,23 @@ are_named file places given ds xs h away stand =
           let e = stand p there inside in
           let t = has_token ds ts e.0 c e.2.0 h away e.1 e.2.1 in
           ap (λ q. list_any (same_place q) (positions ts)) (sym e.2.2) ∙ has_place ts (written c e.2.0) t);
-      begin = all_tokens (λ t. list_any (same_place t.pos) places ≡ true → BeginsWith (as_written c (name_text given)) t.token) ts
+      begin = all_tokens (λ t. list_any (same_place t.pos) places ≡ true → BeginsWith (lead c part t.pos ++ part_text part) t.token) ts
           (λ t here there.
           let e = stand t.pos there (in_it file xs t here) in
           let u = has_token ds ts e.0 c e.2.0 h away e.1 e.2.1 in
-          begins c (name_text given) e.2.0 t (only ts t (written c e.2.0) away here u (sym e.2.2)) (e.2.3.0, e.2.3.1));
+          begins c (front part t.pos) (part_text part) e.2.0 t (only ts t (written c e.2.0) away here u (sym e.2.2)) (e.2.3.0, e.2.3.1));
     }
 
 -- texts
 
-split_named : (c : Bool) (old : List ℕ) (p : Pos) (es fs : List EventNode) → AnyNamed c old p (es ++ fs) → AnyNamed c old p es ⊎ AnyNamed c old p fs
-split_named c old p [] fs h = inr h
-split_named c old p (e ∷ es) fs (d, inl is, n) = inl (d, inl is, n)
-split_named c old p (e ∷ es) fs (d, inr later, n) =
-    ⊎_elim (λ one. inl (one.0, inr one.1, one.2)) (λ other. inr other) (split_named c old p es fs (d, later, n))
+split_named : (c : Bool) (part : Part) (p : Pos) (es fs : List EventNode) → AnyNamed c part p (es ++ fs) → AnyNamed c part p es ⊎ AnyNamed c part p fs
+split_named c part p [] fs h = inr h
+split_named c part p (e ∷ es) fs (d, inl is, n) = inl (d, inl is, n)
+split_named c part p (e ∷ es) fs (d, inr later, n) =
+    ⊎_elim (λ one. inl (one.0, inr one.1, one.2)) (λ other. inr other) (split_named c part p es fs (d, later, n))
 
-count : (c : Bool) (old : List ℕ) (p : Pos) (es : List EventNode) → AnyNamed c old p es → 1 ≤ events_at c p es
-count c old p es h = subst (λ q. 1 ≤ events_at c q es) h.2.2 (named_at es h.0 c h.2.0 h.1 h.2.1)
+count : (c : Bool) (part : Part) (p : Pos) (es : List EventNode) → AnyNamed c part p es → 1 ≤ events_at c p es
+count c part p es h = subst (λ q. 1 ≤ events_at c q es) h.2.2 (named_at es h.0 c h.2.0 h.1 h.2.1)
 
 among : (c : Bool) (p : Pos) (es : List EventNode) → events_at c p es ≤ names_at p es
 among true p es = omega arith
@@ -167,30 +170,30 @@ spelt_as place text ds xs ts l same h =
     (whole.0, (xs, l, whole.2.1), whole.1)
 
 -- at each position of a text's file stands an event of it
-abbrev pub EachStands : Bool → List ℕ → List Pos → ℕ → List SpeltText → Type 0
-EachStands c old places file [] = Unit {0}
-EachStands c old places file (t ∷ ts) = Stand c old places file (events t.definitions) × EachStands c old places (file + 1) ts
+abbrev pub EachStands : Bool → Part → List Pos → ℕ → List SpeltText → Type 0
+EachStands c part places file [] = Unit {0}
+EachStands c part places file (t ∷ ts) = Stand c part places file (events t.definitions) × EachStands c part places (file + 1) ts
 
-each_stands : (c : Bool) (old : List ℕ) (places : List Pos) (file : ℕ) (ts : List SpeltText) → AreSpelt file ts →
-    ((p : Pos) → list_any (same_place p) places ≡ true → file ≤ p.file → AnyNamed c old p (events (definitions_of ts))) → EachStands c old places file ts
-each_stands c old places file [] spelt stand = tt
-each_stands c old places file (t ∷ ts) spelt stand =
+each_stands : (c : Bool) (part : Part) (places : List Pos) (file : ℕ) (ts : List SpeltText) → AreSpelt file ts →
+    ((p : Pos) → list_any (same_place p) places ≡ true → file ≤ p.file → AnyNamed c part p (events (definitions_of ts))) → EachStands c part places file ts
+each_stands c part places file [] spelt stand = tt
+each_stands c part places file (t ∷ ts) spelt stand =
     let tokens : List Lexeme = spelt.0.0 in
-    let each : (p : Pos) → list_any (same_place p) places ≡ true → file ≤ p.file → AnyNamed c old p (events t.definitions) ⊎ AnyNamed c old p (events (definitions_of ts)) =
-    λ p there past. split_named c old p (events t.definitions) (events (definitions_of ts)) (subst (AnyNamed c old p) (events_of_both t.definitions (definitions_of ts)) (stand p there past)) in (
+    let each : (p : Pos) → list_any (same_place p) places ≡ true → file ≤ p.file → AnyNamed c part p (events t.definitions) ⊎ AnyNamed c part p (events (definitions_of ts)) =
+    λ p there past. split_named c part p (events t.definitions) (events (definitions_of ts)) (subst (AnyNamed c part p) (events_of_both t.definitions (definitions_of ts)) (stand p there past)) in (
       λ p there inside.
           ⊎_elim (λ one. one)
           (λ other.
-          let number = count c old p (events (definitions_of ts)) other in
+          let number = count c part p (events (definitions_of ts)) other in
           let none = (text_names p (file + 1) ts spelt.1).1 (omega arith) in
           let most = among c p (events (definitions_of ts)) in
           absurd (omega arith))
           (each p there (omega arith)),
-      each_stands c old places (file + 1) ts spelt.1
+      each_stands c part places (file + 1) ts spelt.1
           (λ p there past.
           ⊎_elim
           (λ one.
-          let number = count c old p (events t.definitions) one in
+          let number = count c part p (events t.definitions) one in
           let most = names_at_most t.definitions (placed (in_file file) tokens) spelt.0.2 p in
           let some = among c p (events t.definitions) in
           let none = none_elsewhere p file tokens (λ e. omega arith) in
@@ -200,38 +203,42 @@ each_stands c old places file (t ∷ ts) spelt stand =
     )
 
 pub accepted_stands : (file : ℕ) (ts : List SpeltText) (given : NameNode) (new : List ℕ) (places : List Pos) → AreSpelt file ts → IsAccepted given new (seen (events (definitions_of ts))) places →
-    EachStands (is_constant given) (name_text given) places file ts
+    EachStands (is_constant given) (part_of given (seen (events (definitions_of ts)))) places file ts
 accepted_stands file ts given new places spelt ok =
-    each_stands (is_constant given) (name_text given) places file ts spelt (λ p there _. named (events (definitions_of ts)) given new places ok p there)
+    each_stands (is_constant given) (part_of given (seen (events (definitions_of ts)))) places file ts spelt
+    (λ p there _. named (events (definitions_of ts)) given new places (program_apart file ts spelt) ok p there)
 
-texts_spelt : (places : List Pos) (given : NameNode) (new : List ℕ) → is_new_name new ≡ true → IsSorted position_cmp places → are_apart places ≡ true → (file : ℕ) (ts : List SpeltText) → AreSpelt file ts →
-    AreSpeltWith (replaced places (name_text given) new) (renamed_tokens places given new) file ts → EachStands (is_constant given) (name_text given) places file ts → AreSpeltEdited places given new file ts
-texts_spelt places given new fresh up away file [] spelt turned stand = tt
-texts_spelt places given new fresh up away file (t ∷ ts) spelt turned stand =
-    let old : List ℕ = name_text given in
+texts_spelt : (places : List Pos) (given : NameNode) (part : Part) (new : List ℕ) → is_new_name new ≡ true → IsSorted position_cmp places → are_apart places ≡ true → (file : ℕ) (ts : List SpeltText) → AreSpelt file ts →
+    AreSpeltWith (replaced places part new) (renamed_tokens places given part new) file ts → EachStands (is_constant given) part places file ts → AreSpeltEdited places given part new file ts
+texts_spelt places given part new fresh up away file [] spelt turned stand = tt
+texts_spelt places given part new fresh up away file (t ∷ ts) spelt turned stand =
     let tokens : List Lexeme = spelt.0.0 in
     let apart_here = tokens_apart file (length t.text) t.text tokens spelt.0.1 (omega arith) in
     let same : turned.0.0 ≡ tokens = (Lexes-unique (length t.text) t.text turned.0.0 tokens end end turned.0.1 spelt.0.1).0 in
-    let renamed : SpellsDefinitions (map_definitions (replaced places old new) t.definitions) (renamed_tokens places given new (placed (in_file file) tokens)) =
-    subst (λ xs. SpellsDefinitions (map_definitions (replaced places old new) t.definitions) (renamed_tokens places given new (placed (in_file file) xs))) same turned.0.2 in (
+    let renamed : SpellsDefinitions (map_definitions (replaced places part new) t.definitions) (renamed_tokens places given part new (placed (in_file file) tokens)) =
+    subst (λ xs. SpellsDefinitions (map_definitions (replaced places part new) t.definitions) (renamed_tokens places given part new (placed (in_file file) xs))) same turned.0.2 in (
       λ free.
-          spelt_as (in_file file) (edited_text file places given new t.text) (map_definitions (replaced places old new) t.definitions) (edited_tokens file places given new tokens) (renamed_tokens places given new (placed (in_file file) tokens))
-          (edited_lexes file places t.text tokens given new spelt.0.1 fresh up away (are_named file places given t.definitions tokens spelt.0.2 apart_here stand.0) free)
-          (edited_renamed file places given new tokens) renamed,
-      texts_spelt places given new fresh up away (file + 1) ts spelt.1 turned.1 stand.1,
+          spelt_as (in_file file) (edited_text file places given part new t.text) (map_definitions (replaced places part new) t.definitions) (edited_tokens file places given part new tokens) (renamed_tokens places given part new (placed (in_file file) tokens))
+          (edited_lexes file places t.text tokens given part new spelt.0.1 fresh up away (are_named file places given part t.definitions tokens spelt.0.2 apart_here stand.0) free)
+          (edited_renamed file places given part new tokens) renamed,
+      texts_spelt places given part new fresh up away (file + 1) ts spelt.1 turned.1 stand.1,
     )
 
 pub edited_program_spells : (file : ℕ) (ts : List SpeltText) (given : NameNode) (new : List ℕ) (places : List Pos) → AreSpelt file ts → IsAccepted given new (seen (events (definitions_of ts))) places →
-    AreSpeltEdited places given new file ts
+    AreSpeltEdited places given (part_of given (seen (events (definitions_of ts)))) new file ts
 edited_program_spells file ts given new places spelt ok =
     let ds : List Definition = definitions_of ts in
-    texts_spelt places given new (new_name given new (seen (events ds)) ok.accepted) ok.in_order (changed_apart (events ds) given new places (program_apart file ts spelt) ok) file ts spelt
+    texts_spelt places given (part_of given (seen (events ds))) new (new_name given new (seen (events ds)) ok.accepted) ok.in_order (changed_apart (events ds) given new places (program_apart file ts spelt) ok) file ts spelt
     (program_spells file ts given new places spelt ok) (accepted_stands file ts given new places spelt ok)
 
 -- the same of one text
 pub edited_text_spells : (file : ℕ) (text : List ℕ) (ds : List Definition) (given : NameNode) (new : List ℕ) (places : List Pos) → IsSpelt (in_file file) text ds → IsAccepted given new (seen (events ds)) places →
-    AreNotGlued file places given text → SpellsUpToPositions (in_file file) (edited_text file places given new text) (map_definitions (replaced places (name_text given) new) ds)
+    AreNotGlued file places given (part_of given (seen (events ds))) text →
+    SpellsUpToPositions (in_file file) (edited_text file places given (part_of given (seen (events ds))) new text) (map_definitions (replaced places (part_of given (seen (events ds))) new) ds)
 edited_text_spells file text ds given new places spelt ok free =
     let one : List SpeltText = record { text = text; definitions = ds } ∷ [] in
     let same : ds ≡ definitions_of one = sym (append-nil ds) in
-    (edited_program_spells file one given new places (spelt, tt) (subst (λ es. IsAccepted given new (seen (events es)) places) same ok)).0 free
+    let Spells : List Definition → Type 0 = λ es.
+    AreNotGlued file places given (part_of given (seen (events es))) text →
+    SpellsUpToPositions (in_file file) (edited_text file places given (part_of given (seen (events es))) new text) (map_definitions (replaced places (part_of given (seen (events es))) new) ds) in
+    subst Spells (sym same) (edited_program_spells file one given new places (spelt, tt) (subst (λ es. IsAccepted given new (seen (events es)) places) same ok)).0 free

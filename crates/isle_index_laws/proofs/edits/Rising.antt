@@ -14,8 +14,7 @@ use Rattle.isle_base_source.specs.PositionOrder.{position_cmp}
 use Rattle.isle_base_source.specs.declared.pos.Pos.{Pos}
 use Rattle.isle_index.specs.Renamed.{are_apart, same_place}
 use Rattle.isle_index.proofs.Texts.{or-false}
-use Rattle.isle_index_laws.specs.edits.Edits.{sign_length}
-use Rattle.isle_index_laws.proofs.edits.Lexed.{starts}
+use Rattle.isle_index_laws.proofs.edits.Lexed.{marked_offsets}
 use Rattle.isle_index_laws.proofs.KeptNames.{clash}
 use Rattle.isle_index_laws.proofs.NewNames.{not-false}
 
@@ -58,72 +57,72 @@ has_later n m ns less = ap (λ b. b || has m ns) (ne_eqb m n (λ e. omega arith)
 
 -- The offsets of the tokens that are marked are some numbers, if both rise and have the same.
 
-module _ (mark : ℕ → Bool) (c : Bool) where
+module _ (mark : ℕ → Bool) where
   abbrev pub offsets : List Lexeme → List ℕ
-  offsets xs = map (λ x. x.offset + sign_length c) xs
+  offsets xs = map (λ x. x.offset) xs
 
   abbrev pub Marks : List ℕ → List Lexeme → Type 0
-  Marks os xs = AllByRecursion (λ x. mark x.offset ≡ has (x.offset + sign_length c) os) xs
+  Marks os xs = AllByRecursion (λ x. mark x.offset ≡ has x.offset os) xs
 
   abbrev pub Found : List Lexeme → List ℕ → Type 0
   Found xs os = AllByRecursion (λ o. has o (offsets xs) ≡ true) os
 
   -- numbers above the first offset are those of later tokens
-  found_later : (n : ℕ) (xs : List Lexeme) (o : Lexeme) (os : List ℕ) → Above (o.offset + sign_length c) os → Found (o ∷ xs) os → Found xs os
+  found_later : (n : ℕ) (xs : List Lexeme) (o : Lexeme) (os : List ℕ) → Above o.offset os → Found (o ∷ xs) os → Found xs os
   found_later n xs o [] h f = tt
   found_later n xs o (m ∷ os) h f =
-      (sym (has_later (o.offset + sign_length c) m (offsets xs) h.0) ∙ f.0, found_later n xs o os h.1 f.1)
+      (sym (has_later o.offset m (offsets xs) h.0) ∙ f.0, found_later n xs o os h.1 f.1)
 
   -- tokens above a number are marked by those behind it
   marks_later : (n : ℕ) (os : List ℕ) (xs : List Lexeme) → Above n (offsets xs) → Marks (n ∷ os) xs → Marks os xs
   marks_later n os [] h m = tt
-  marks_later n os (x ∷ xs) h m = (m.0 ∙ has_later n (x.offset + sign_length c) os h.0, marks_later n os xs h.1 m.1)
+  marks_later n os (x ∷ xs) h m = (m.0 ∙ has_later n x.offset os h.0, marks_later n os xs h.1 m.1)
 
-  starts_are_by : (x : Lexeme) (xs : List Lexeme) (o : ℕ) (os : List ℕ) → Above (x.offset + sign_length c) (offsets xs) → Rising (o ∷ os) → Found (x ∷ xs) (o ∷ os) → Marks (o ∷ os) (x ∷ xs) →
-      ((ns : List ℕ) → Rising ns → Found xs ns → Marks ns xs → starts mark c xs ≡ ns) →
-      (b : Bool) → (o == (x.offset + sign_length c)) ≡ b → starts mark c (x ∷ xs) ≡ o ∷ os
+  starts_are_by : (x : Lexeme) (xs : List Lexeme) (o : ℕ) (os : List ℕ) → Above x.offset (offsets xs) → Rising (o ∷ os) → Found (x ∷ xs) (o ∷ os) → Marks (o ∷ os) (x ∷ xs) →
+      ((ns : List ℕ) → Rising ns → Found xs ns → Marks ns xs → marked_offsets mark xs ≡ ns) →
+      (b : Bool) → (o == x.offset) ≡ b → marked_offsets mark (x ∷ xs) ≡ o ∷ os
   starts_are_by x xs o os up rise f m later true e =
-      let same : o ≡ x.offset + sign_length c = eqb-true o (x.offset + sign_length c) e in
-      let here : has (x.offset + sign_length c) (o ∷ os) ≡ true = ap (λ b. b || has (x.offset + sign_length c) os) (eq-eqb (x.offset + sign_length c) o (sym same)) in
-      let above : Above (x.offset + sign_length c) os = subst (λ n. Above n os) same rise.0 in
+      let same : o ≡ x.offset = eqb-true o x.offset e in
+      let here : has x.offset (o ∷ os) ≡ true = ap (λ b. b || has x.offset os) (eq-eqb x.offset o (sym same)) in
+      let above : Above x.offset os = subst (λ n. Above n os) same rise.0 in
       let rest = later os rise.1 (found_later o xs x os above f.1) (marks_later o os xs (subst (λ n. Above n (offsets xs)) (sym same) up) m.1) in
-      ap (λ b. cond b ((x.offset + sign_length c) ∷ starts mark c xs) (starts mark c xs)) (m.0 ∙ here)
-      ∙ ap (λ n. n ∷ starts mark c xs) (sym same) ∙ ap (λ ns. o ∷ ns) rest
+      ap (λ b. cond b (x.offset ∷ marked_offsets mark xs) (marked_offsets mark xs)) (m.0 ∙ here)
+      ∙ ap (λ n. n ∷ marked_offsets mark xs) (sym same) ∙ ap (λ ns. o ∷ ns) rest
   starts_are_by x xs o os up rise f m later false e =
       let there : has o (offsets xs) ≡ true = sym (ap (λ b. b || has o (offsets xs)) e) ∙ f.0 in
-      let less : x.offset + sign_length c < o = greater (x.offset + sign_length c) o (offsets xs) up there in
-      let above : Above (x.offset + sign_length c) (o ∷ os) = (less, above_more (x.offset + sign_length c) o os (omega arith) rise.0) in
-      let none : has (x.offset + sign_length c) (o ∷ os) ≡ false = not_above (x.offset + sign_length c) (o ∷ os) above in
-      ap (λ b. cond b ((x.offset + sign_length c) ∷ starts mark c xs) (starts mark c xs)) (m.0 ∙ none)
+      let less : x.offset < o = greater x.offset o (offsets xs) up there in
+      let above : Above x.offset (o ∷ os) = (less, above_more x.offset o os (omega arith) rise.0) in
+      let none : has x.offset (o ∷ os) ≡ false = not_above x.offset (o ∷ os) above in
+      ap (λ b. cond b (x.offset ∷ marked_offsets mark xs) (marked_offsets mark xs)) (m.0 ∙ none)
       ∙ later (o ∷ os) rise (found_later o xs x (o ∷ os) above f) m.1
 
-  none_start : (xs : List Lexeme) → Marks [] xs → starts mark c xs ≡ []
+  none_start : (xs : List Lexeme) → Marks [] xs → marked_offsets mark xs ≡ []
   none_start [] m = refl
-  none_start (x ∷ xs) m = ap (λ b. cond b ((x.offset + sign_length c) ∷ starts mark c xs) (starts mark c xs)) m.0 ∙ none_start xs m.1
+  none_start (x ∷ xs) m = ap (λ b. cond b (x.offset ∷ marked_offsets mark xs) (marked_offsets mark xs)) m.0 ∙ none_start xs m.1
 
-  pub starts_are : (xs : List Lexeme) (os : List ℕ) → Rising (offsets xs) → Rising os → Found xs os → Marks os xs → starts mark c xs ≡ os
+  pub starts_are : (xs : List Lexeme) (os : List ℕ) → Rising (offsets xs) → Rising os → Found xs os → Marks os xs → marked_offsets mark xs ≡ os
   starts_are xs [] up rise f m = none_start xs m
   starts_are [] (o ∷ os) up rise f m = let never : false ≡ true = f.0 in absurd (cc)
   starts_are (x ∷ xs) (o ∷ os) up rise f m =
-      starts_are_by x xs o os up.0 rise f m (λ ns r g n. starts_are xs ns up.1 r g n) (o == (x.offset + sign_length c)) refl
+      starts_are_by x xs o os up.0 rise f m (λ ns r g n. starts_are xs ns up.1 r g n) (o == x.offset) refl
 
 -- the offsets of tokens rise
 
-at_least : (c : Bool) (n size : ℕ) (text : List ℕ) (xs : List Lexeme) → Lexes size text xs end → length text ≤ size → n + 1 ≤ size - length text + sign_length c → Above n (map (λ x. x.offset + sign_length c) xs)
-at_least c n size text [] l fits low = tt
-at_least c n size text (x ∷ xs) l fits low =
+at_least : (n size : ℕ) (text : List ℕ) (xs : List Lexeme) → Lexes size text xs end → length text ≤ size → n + 1 ≤ size - length text → Above n (map (λ x. x.offset) xs)
+at_least n size text [] l fits low = tt
+at_least n size text (x ∷ xs) l fits low =
     let skip = Skip-le l.2 in
     let shorter = Spelling-shorter l.0 x.token l.1 l.3 in
     let place : x.offset ≡ size - length l.0 = l.4 in
-    (omega arith, at_least c n size l.1 xs l.6 (omega arith) (omega arith))
+    (omega arith, at_least n size l.1 xs l.6 (omega arith) (omega arith))
 
-pub tokens_rise : (c : Bool) (size : ℕ) (text : List ℕ) (xs : List Lexeme) → Lexes size text xs end → length text ≤ size → Rising (map (λ x. x.offset + sign_length c) xs)
-tokens_rise c size text [] l fits = tt
-tokens_rise c size text (x ∷ xs) l fits =
+pub tokens_rise : (size : ℕ) (text : List ℕ) (xs : List Lexeme) → Lexes size text xs end → length text ≤ size → Rising (map (λ x. x.offset) xs)
+tokens_rise size text [] l fits = tt
+tokens_rise size text (x ∷ xs) l fits =
     let skip = Skip-le l.2 in
     let shorter = Spelling-shorter l.0 x.token l.1 l.3 in
     let place : x.offset ≡ size - length l.0 = l.4 in
-    (at_least c (x.offset + sign_length c) size l.1 xs l.6 (omega arith) (omega arith), tokens_rise c size l.1 xs l.6 (omega arith))
+    (at_least x.offset size l.1 xs l.6 (omega arith) (omega arith), tokens_rise size l.1 xs l.6 (omega arith))
 
 -- positions in order
 
@@ -174,63 +173,58 @@ ordered (p ∷ q ∷ ps) s =
     ((least, all_after p q ps least more.0), more)
 
 -- the offsets of positions in a file
-abbrev pub offsets_of : Bool → ℕ → List Pos → List ℕ
-offsets_of c file ps = map (λ p. p.offset + sign_length c) (filter (λ p. file == p.file) ps)
+abbrev pub offsets_of : ℕ → List Pos → List ℕ
+offsets_of file ps = map (λ p. p.offset) (filter (λ p. file == p.file) ps)
 
 same_there : (p q : Pos) → p.file ≡ q.file → p.offset ≡ q.offset → same_place p q ≡ true
 same_there p q file offset = and_from (p.file == q.file) (p.offset == q.offset) (eq-eqb p.file q.file file) (eq-eqb p.offset q.offset offset)
 
-above_by : (c : Bool) (file n : ℕ) (q : Pos) (ps : List Pos) (b : Bool) → (b ≡ true → n < q.offset + sign_length c) → Above n (offsets_of c file ps) →
-    Above n (map (λ p. p.offset + sign_length c) (cond b (q ∷ filter (λ p. file == p.file) ps) (filter (λ p. file == p.file) ps)))
-above_by c file n q ps true h more = (h refl, more)
-above_by c file n q ps false h more = more
+above_by : (file n : ℕ) (q : Pos) (ps : List Pos) (b : Bool) → (b ≡ true → n < q.offset) → Above n (offsets_of file ps) →
+    Above n (map (λ p. p.offset) (cond b (q ∷ filter (λ p. file == p.file) ps) (filter (λ p. file == p.file) ps)))
+above_by file n q ps true h more = (h refl, more)
+above_by file n q ps false h more = more
 
-above : (c : Bool) (file : ℕ) (p : Pos) (ps : List Pos) → p.file ≡ file → AllByRecursion (λ q. AtMost p q) ps → list_any (same_place p) ps ≡ false → Above (p.offset + sign_length c) (offsets_of c file ps)
-above c file p [] in_it all away = tt
-above c file p (q ∷ ps) in_it all away =
+above : (file : ℕ) (p : Pos) (ps : List Pos) → p.file ≡ file → AllByRecursion (λ q. AtMost p q) ps → list_any (same_place p) ps ≡ false → Above p.offset (offsets_of file ps)
+above file p [] in_it all away = tt
+above file p (q ∷ ps) in_it all away =
     let both = or-false (same_place p q) (list_any (same_place p) ps) away in
-    above_by c file (p.offset + sign_length c) q ps (file == q.file)
+    above_by file p.offset q ps (file == q.file)
     (λ e.
     let there : file ≡ q.file = eqb-true file q.file e in
     let most : p.offset ≤ q.offset = all.0.1 (in_it ∙ there) in
     let other : p.offset ≡ q.offset → ⊥ = λ (s : p.offset ≡ q.offset). clash (same_place p q) (same_there p q (in_it ∙ there) s) both.0 in
     omega arith)
-    (above c file p ps in_it all.1 both.1)
+    (above file p ps in_it all.1 both.1)
 
-rise_by : (c : Bool) (file : ℕ) (p : Pos) (ps : List Pos) (b : Bool) → (b ≡ true → Above (p.offset + sign_length c) (offsets_of c file ps)) → Rising (offsets_of c file ps) →
-    Rising (map (λ q. q.offset + sign_length c) (cond b (p ∷ filter (λ q. file == q.file) ps) (filter (λ q. file == q.file) ps)))
-rise_by c file p ps true h more = (h refl, more)
-rise_by c file p ps false h more = more
+rise_by : (file : ℕ) (p : Pos) (ps : List Pos) (b : Bool) → (b ≡ true → Above p.offset (offsets_of file ps)) → Rising (offsets_of file ps) →
+    Rising (map (λ q. q.offset) (cond b (p ∷ filter (λ q. file == q.file) ps) (filter (λ q. file == q.file) ps)))
+rise_by file p ps true h more = (h refl, more)
+rise_by file p ps false h more = more
 
-offsets_rise : (c : Bool) (file : ℕ) (ps : List Pos) → Ordered ps → are_apart ps ≡ true → Rising (offsets_of c file ps)
-offsets_rise c file [] up away = tt
-offsets_rise c file (p ∷ ps) up away =
+offsets_rise : (file : ℕ) (ps : List Pos) → Ordered ps → are_apart ps ≡ true → Rising (offsets_of file ps)
+offsets_rise file [] up away = tt
+offsets_rise file (p ∷ ps) up away =
     let both = and_parts (not (list_any (same_place p) ps)) (are_apart ps) away in
-    rise_by c file p ps (file == p.file)
-    (λ e. above c file p ps (sym (eqb-true file p.file e)) up.0 (not-false (list_any (same_place p) ps) both.0))
-    (offsets_rise c file ps up.1 both.1)
+    rise_by file p ps (file == p.file)
+    (λ e. above file p ps (sym (eqb-true file p.file e)) up.0 (not-false (list_any (same_place p) ps) both.0))
+    (offsets_rise file ps up.1 both.1)
 
-pub places_rise : (c : Bool) (file : ℕ) (ps : List Pos) → IsSorted position_cmp ps → are_apart ps ≡ true → Rising (offsets_of c file ps)
-places_rise c file ps s away = offsets_rise c file ps (ordered ps s) away
+pub places_rise : (file : ℕ) (ps : List Pos) → IsSorted position_cmp ps → are_apart ps ≡ true → Rising (offsets_of file ps)
+places_rise file ps s away = offsets_rise file ps (ordered ps s) away
 
 -- whether a token is at one of the positions
 
-eq_more : (n m k : ℕ) (b : Bool) → (n == m) ≡ b → b ≡ ((n + k) == (m + k))
-eq_more n m k true e = let same = eqb-true n m e in sym (eq-eqb (n + k) (m + k) (ap (λ x. x + k) same))
-eq_more n m k false e = sym (ne_eqb (n + k) (m + k) (λ s. clash (n == m) (eq-eqb n m (omega arith)) e))
-
-marked_by : (c : Bool) (file offset : ℕ) (p : Pos) (ps : List Pos) (b : Bool) → list_any (same_place (in_file file offset)) ps ≡ has (offset + sign_length c) (offsets_of c file ps) →
+marked_by : (file offset : ℕ) (p : Pos) (ps : List Pos) (b : Bool) → list_any (same_place (in_file file offset)) ps ≡ has offset (offsets_of file ps) →
     (b && (offset == p.offset)) || list_any (same_place (in_file file offset)) ps
-    ≡ has (offset + sign_length c) (map (λ q. q.offset + sign_length c) (cond b (p ∷ filter (λ q. file == q.file) ps) (filter (λ q. file == q.file) ps)))
-marked_by c file offset p ps true more =
-    ap (λ b. b || list_any (same_place (in_file file offset)) ps) (eq_more offset p.offset (sign_length c) (offset == p.offset) refl)
-    ∙ ap (λ b. ((offset + sign_length c) == (p.offset + sign_length c)) || b) more
-marked_by c file offset p ps false more = more
+    ≡ has offset (map (λ q. q.offset) (cond b (p ∷ filter (λ q. file == q.file) ps) (filter (λ q. file == q.file) ps)))
+marked_by file offset p ps true more =
+    ap (λ b. (offset == p.offset) || b) more
+marked_by file offset p ps false more = more
 
-pub is_marked : (c : Bool) (file offset : ℕ) (ps : List Pos) → list_any (same_place (in_file file offset)) ps ≡ has (offset + sign_length c) (offsets_of c file ps)
-is_marked c file offset [] = refl
-is_marked c file offset (p ∷ ps) = marked_by c file offset p ps (file == p.file) (is_marked c file offset ps)
+pub is_marked : (file offset : ℕ) (ps : List Pos) → list_any (same_place (in_file file offset)) ps ≡ has offset (offsets_of file ps)
+is_marked file offset [] = refl
+is_marked file offset (p ∷ ps) = marked_by file offset p ps (file == p.file) (is_marked file offset ps)
 
-pub are_marked : (c : Bool) (file : ℕ) (ps : List Pos) (xs : List Lexeme) → Marks (λ n. list_any (same_place (in_file file n)) ps) c (offsets_of c file ps) xs
-are_marked c file ps [] = tt
-are_marked c file ps (x ∷ xs) = (is_marked c file x.offset ps, are_marked c file ps xs)
+pub are_marked : (file : ℕ) (ps : List Pos) (xs : List Lexeme) → Marks (λ n. list_any (same_place (in_file file n)) ps) (offsets_of file ps) xs
+are_marked file ps [] = tt
+are_marked file ps (x ∷ xs) = (is_marked file x.offset ps, are_marked file ps xs)

@@ -37,11 +37,11 @@ abbrev pub Has : {A : Type 0} → List A → A → Type 0
 Has [] x = ⊥
 Has (y ∷ ys) x = (y ≡ x) ⊎ Has ys x
 
--- the name that an event is about, and whether that is a constant; none where a variant is defined
+-- the name that an event is about, and whether that is a constant; of a variant its own name, where it is defined
 abbrev pub name_of : EventNode → Option (Bool × Name)
 name_of (defines kind n) = Some (is_constant_kind kind, n)
 name_of (uses kind n) = Some (is_constant_kind kind, n)
-name_of (defines_variant _ _) = None
+name_of (defines_variant _ member) = Some (false, member)
 name_of (occurs _ n) = Some (false, n)
 name_of (binds n) = Some (false, n)
 name_of (reads n) = Some (false, n)
@@ -161,7 +161,7 @@ key_of (Some x) = Some (x.0, x.1.pos)
 key_is : (e : EventNode) (x : Bool × Name) → name_of e ≡ Some x → wanted e ≡ key_of (name_of e)
 key_is (defines k m) x is = refl
 key_is (uses k m) x is = refl
-key_is (defines_variant o m) x is = absurd (cc)
+key_is (defines_variant o m) x is = refl
 key_is (occurs r m) x is = refl
 key_is (binds m) x is = refl
 key_is (reads m) x is = refl

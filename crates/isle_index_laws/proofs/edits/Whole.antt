@@ -1,11 +1,11 @@
 -- Where a name's text begins and ends, no character and no CR LF is cut.
-use Rattle.std.proofs.Common.{◌≡◌, ◌⊎◌, inl, inr, ℕ, suc, ◌+◌, ◌≤◌, List, [], ◌∷◌, ◌++◌, Bool, true, false, IsCharBoundary, IsUtf8, get_or, slice_index, refl, sym, ap, subst, ◌∙◌, length, length-append, append_assoc, arith}
+use Rattle.std.proofs.Common.{◌≡◌, ◌⊎◌, inl, inr, ℕ, suc, ◌+◌, ◌<◌, ◌≤◌, List, [], ◌∷◌, ◌++◌, Bool, true, false, IsCharBoundary, IsUtf8, drop, get_or, slice_index, refl, sym, ap, subst, ◌∙◌, length, length-append, append_assoc, arith}
 use Rattle.std.proofs.lemmas.Bool.{and_parts}
 use Rattle.std.proofs.lemmas.Bool.Decides.{nat_tests}
 use Rattle.std.proofs.lemmas.List.{get_or-append-add}
 use Rattle.std.proofs.lemmas.List.Folds.{list_all-append}
-use Rattle.std.proofs.lemmas.Str.{IsCharBoundary-after_ascii, IsCharBoundary-from_drop}
-use Rattle.std.proofs.Math.Seq.{get_or-append_seam}
+use Rattle.std.proofs.lemmas.Str.{IsCharBoundary-after_ascii, IsCharBoundary-from_drop, IsUtf8-drop}
+use Rattle.std.proofs.Math.Seq.{drop-append_seam, get_or-append_seam}
 use Rattle.std.specs.List.{list_all}
 use Rattle.isle_base.specs.Bytes.{dollar, dot}
 use Rattle.isle_base.specs.Lexing.{Lexes}
@@ -13,15 +13,12 @@ use Rattle.isle_base.specs.Skips.{begins_with, is_blank}
 use Rattle.isle_base.specs.Spellings.{Spelling, in_symbol}
 use Rattle.isle_base.specs.Token.{Lexeme, end, symbol}
 use Rattle.isle_base.proofs.Utf8.{Skip-utf8, Spelling-utf8}
-use Rattle.isle_index_laws.specs.RenamedTokens.{as_written}
 use Rattle.isle_index_laws.proofs.KeptNames.{clash}
 use Rattle.isle_lsp_text.specs.Positions.{IsWhole, is_inner}
 use Rattle.isle_lsp_text.proofs.Walks.{inverse_law}
-use Rattle.isle_index_laws.specs.edits.Edits.{sign_length}
 use Rattle.isle_index_laws.specs.edits.Ranges.{IsRange}
 use Rattle.isle_index_laws.proofs.edits.Behind.{last_of}
 use Rattle.isle_index_laws.proofs.edits.Gaps.{gap}
-use Rattle.isle_index_laws.proofs.edits.Lexed.{written_length}
 use Rattle.isle_index_laws.proofs.edits.Tokened.{Has}
 use Rattle.isle_index_laws.proofs.edits.Tokens.{stays, symbol_first, token_line}
 
@@ -47,10 +44,6 @@ no_return : in_symbol 13 ≡ false
 unfolding in_symbol is_blank
 no_return = refl
 
-dollar_in_symbol : in_symbol 36 ≡ true
-unfolding in_symbol is_blank
-dollar_in_symbol = refl
-
 -- the first byte of a text
 utf8_inner : (text : List ℕ) → IsUtf8 text → is_inner (slice_index text 0) ≡ false
 utf8_inner [] h = refl
@@ -58,11 +51,17 @@ utf8_inner (b ∷ bs) h =
     let boundary : IsCharBoundary (b ∷ bs) 0 = IsCharBoundary-from_drop (b ∷ bs) 0 (omega arith) h in
     no_inner b (boundary.1 (omega arith))
 
-behind_dollar : (bs : List ℕ) → IsUtf8 (dollar ∷ bs) → is_inner (slice_index bs 0) ≡ false
-behind_dollar [] h = refl
-behind_dollar (b ∷ bs) h =
-    let boundary : IsCharBoundary (dollar ∷ b ∷ bs) 1 = IsCharBoundary-after_ascii (dollar ∷ b ∷ bs) 0 h (omega arith) (omega arith) in
-    no_inner b (boundary.1 (omega arith))
+behind_ascii : (front bs : List ℕ) (a : ℕ) → a < 128 → IsUtf8 (front ++ (a ∷ bs)) → is_inner (slice_index bs 0) ≡ false
+behind_ascii front bs a low h =
+    let whole : List ℕ = front ++ (a ∷ bs) in
+    let n : ℕ = length (front ++ (a ∷ [])) in
+    let long : length front + 1 ≡ n = sym (length-append front (a ∷ [])) in
+    let all = length-append front (a ∷ bs) in
+    let there : length front ≡ length front + 0 = omega arith in
+    let byte : get_or whole (length front) 0 ≡ a = ap (λ k. get_or whole k 0) there ∙ get_or-append-add front (a ∷ bs) 0 0 in
+    let place : IsCharBoundary whole n = subst (IsCharBoundary whole) long (IsCharBoundary-after_ascii whole (length front) h (omega arith) (subst (λ b. b < 128) (sym byte) low)) in
+    let rest : IsUtf8 (drop n whole) = IsUtf8-drop whole n h place in
+    utf8_inner bs (subst IsUtf8 (ap (drop n) (sym (append_assoc front (a ∷ []) bs)) ∙ drop-append_seam (front ++ (a ∷ [])) bs) rest)
 
 end_inner : (behind after : List ℕ) → IsBehind behind → begins_with in_symbol after ≡ false → is_inner (slice_index (behind ++ after) 0) ≡ false
 end_inner [] [] is stops = refl
@@ -107,26 +106,36 @@ behind_symbol P name rest some each =
     let l = last_of in_symbol name some each in
     inr (P ++ l.0, l.1, ap (λ xs. P ++ xs) l.2 ∙ sym (append_assoc P l.0 (l.1 ∷ [])), not_byte l.1 13 l.3 no_return)
 
--- the two ends of a name's text
+-- the two ends of the part of a name
 
-begins_whole : (T P : List ℕ) (c : Bool) (old rest : List ℕ) → T ≡ P ++ (as_written c old ++ rest) → IsUtf8 (as_written c old ++ rest) → begins_with in_symbol (as_written c old ++ rest) ≡ true →
-    IsWhole T (length P + sign_length c)
-begins_whole T P false old rest is utf8 begins = whole_at T P (old ++ rest) (length P + 0) is (omega arith) (utf8_inner (old ++ rest) utf8) (inl (no_feed_first (old ++ rest) begins))
-begins_whole T P true old rest is utf8 begins =
-    whole_at T (P ++ (dollar ∷ [])) (old ++ rest) (length P + 1) (is ∙ sym (append_assoc P (dollar ∷ []) (old ++ rest))) (omega (arith, length-append P (dollar ∷ []))) (behind_dollar (old ++ rest) utf8)
-    (inr (P, dollar, refl, not_byte dollar 13 dollar_in_symbol no_return))
+-- what stays in front of it ends with a byte of ASCII, as a `$` and a dot are, if there is any
+abbrev pub EndsPlain : List ℕ → Type 0
+EndsPlain stay = (stay ≡ []) ⊎ ((front : List ℕ) × (last : ℕ) × (stay ≡ front ++ (last ∷ [])) × (last < 128))
 
-end_between : (P : List ℕ) (c : Bool) (old rest : List ℕ) → list_all in_symbol (as_written c old) ≡ true → begins_with in_symbol (as_written c old ++ rest) ≡ true → Between (P ++ as_written c old) rest
-end_between P true old rest each begins = behind_symbol P (dollar ∷ old) rest (λ e. cc) each
-end_between P false [] rest each begins = inl (no_feed_first rest begins)
-end_between P false (b ∷ old) rest each begins = behind_symbol P (b ∷ old) rest (λ e. cc) each
+begins_whole : (T P : List ℕ) (stay old rest : List ℕ) → EndsPlain stay → T ≡ P ++ ((stay ++ old) ++ rest) → IsUtf8 ((stay ++ old) ++ rest) → list_all in_symbol stay ≡ true →
+    begins_with in_symbol ((stay ++ old) ++ rest) ≡ true → IsWhole T (length P + length stay)
+begins_whole T P stay old rest (inl none) is utf8 each begins =
+    let same : (stay ++ old) ++ rest ≡ old ++ rest = ap (λ zs. (zs ++ old) ++ rest) none in
+    let size = ap length none in
+    whole_at T P (old ++ rest) (length P + length stay) (is ∙ ap (λ zs. P ++ zs) same) (omega arith) (utf8_inner (old ++ rest) (subst IsUtf8 same utf8))
+    (inl (no_feed_first (old ++ rest) (subst (λ zs. begins_with in_symbol zs ≡ true) same begins)))
+begins_whole T P stay old rest (inr e) is utf8 each begins =
+    let turned : (stay ++ old) ++ rest ≡ e.0 ++ (e.1 ∷ (old ++ rest)) = ap (λ zs. (zs ++ old) ++ rest) e.2 ∙ append_assoc (e.0 ++ (e.1 ∷ [])) old rest ∙ append_assoc e.0 (e.1 ∷ []) (old ++ rest) in
+    let last = and_parts (list_all in_symbol e.0) (list_all in_symbol (e.1 ∷ [])) (sym (list_all-append in_symbol e.0 (e.1 ∷ [])) ∙ sym (ap (list_all in_symbol) e.2) ∙ each) in
+    let byte = and_parts (in_symbol e.1) true last.1 in
+    whole_at T (P ++ stay) (old ++ rest) (length P + length stay) (is ∙ ap (λ zs. P ++ zs) (append_assoc stay old rest) ∙ sym (append_assoc P stay (old ++ rest))) (omega (arith, length-append P stay))
+    (behind_ascii e.0 (old ++ rest) e.1 e.3 (subst IsUtf8 turned utf8))
+    (inr (P ++ e.0, e.1, ap (λ zs. P ++ zs) e.2 ∙ sym (append_assoc P e.0 (e.1 ∷ [])), not_byte e.1 13 byte.0 no_return))
 
-ends_whole : (T P : List ℕ) (c : Bool) (old behind after : List ℕ) → T ≡ P ++ (as_written c old ++ (behind ++ after)) → list_all in_symbol (as_written c old) ≡ true →
-    begins_with in_symbol (as_written c old ++ (behind ++ after)) ≡ true → IsBehind behind → begins_with in_symbol after ≡ false → IsWhole T (length P + sign_length c + length old)
-ends_whole T P c old behind after is each begins b stops =
-    let size = written_length c old in
-    whole_at T (P ++ as_written c old) (behind ++ after) (length P + sign_length c + length old) (is ∙ sym (append_assoc P (as_written c old) (behind ++ after))) (omega (arith, length-append P (as_written c old)))
-    (end_inner behind after b stops) (end_between P c old (behind ++ after) each begins)
+end_between : (P name rest : List ℕ) → list_all in_symbol name ≡ true → begins_with in_symbol (name ++ rest) ≡ true → Between (P ++ name) rest
+end_between P [] rest each begins = inl (no_feed_first rest begins)
+end_between P (b ∷ name) rest each begins = behind_symbol P (b ∷ name) rest (λ e. cc) each
+
+ends_whole : (T P : List ℕ) (name behind after : List ℕ) → T ≡ P ++ (name ++ (behind ++ after)) → list_all in_symbol name ≡ true →
+    begins_with in_symbol (name ++ (behind ++ after)) ≡ true → IsBehind behind → begins_with in_symbol after ≡ false → IsWhole T (length P + length name)
+ends_whole T P name behind after is each begins b stops =
+    whole_at T (P ++ name) (behind ++ after) (length P + length name) (is ∙ sym (append_assoc P name (behind ++ after))) (omega (arith, length-append P name))
+    (end_inner behind after b stops) (end_between P name (behind ++ after) each begins)
 
 -- a token, where it stands
 pub record Spot (T : List ℕ) (x : Lexeme) : Type 0 where
@@ -156,19 +165,19 @@ spot T front text (y ∷ ys) is utf8 l x h =
     spot_by T (front ++ g.bytes) l.0 l.1 y ys ahead (l.4 ∙ (omega (arith, length-append (front ++ g.bytes) l.0))) l.3 here x
     (λ k. spot T ((front ++ g.bytes) ++ bytes) l.1 ys whole (Spelling-utf8 l.0 y.token l.1 l.3 here) l.6 x k) h
 
-written_both : (c : Bool) (old behind : List ℕ) → as_written c (old ++ behind) ≡ as_written c old ++ behind
-written_both true old behind = refl
-written_both false old behind = refl
-
--- the text of a name is a range
-pub range : (T : List ℕ) (x : Lexeme) (c : Bool) (old behind : List ℕ) → Spot T x → x.token ≡ symbol (as_written c (old ++ behind)) → IsBehind behind → IsRange T (length old) (x.offset + sign_length c)
-range T x c old behind s is b =
-    let turned : as_written c (old ++ behind) ≡ as_written c old ++ behind = written_both c old behind in
-    let spelt : Spelling s.text (symbol (as_written c old ++ behind)) s.after = subst (λ t. Spelling s.text t s.after) (is ∙ ap symbol turned) s.spelt in
-    let split : s.text ≡ as_written c old ++ (behind ++ s.after) = spelt.1.split ∙ append_assoc (as_written c old) behind s.after in
-    let whole : T ≡ s.front ++ (as_written c old ++ (behind ++ s.after)) = s.split ∙ ap (λ zs. s.front ++ zs) split in
-    let begins : begins_with in_symbol (as_written c old ++ (behind ++ s.after)) ≡ true = subst (λ zs. begins_with in_symbol zs ≡ true) split (symbol_first s.text (as_written c old ++ behind) s.after spelt) in
-    let each = (and_parts (list_all in_symbol (as_written c old)) (list_all in_symbol behind) (sym (list_all-append in_symbol (as_written c old) behind) ∙ spelt.1.each)).0 in
-    let first : IsWhole T (x.offset + sign_length c) = subst (λ n. IsWhole T (n + sign_length c)) (sym s.at) (begins_whole T s.front c old (behind ++ s.after) whole (subst IsUtf8 split s.utf8) begins) in
-    let last : IsWhole T (x.offset + sign_length c + length old) = subst (λ n. IsWhole T (n + sign_length c + length old)) (sym s.at) (ends_whole T s.front c old behind s.after whole each begins b spelt.1.stops) in
-    (last.0, inverse_law T (x.offset + sign_length c) first, inverse_law T (x.offset + sign_length c + length old) last)
+-- the text of a name's part is a range
+pub range : (T : List ℕ) (x : Lexeme) (stay old behind : List ℕ) → Spot T x → EndsPlain stay → x.token ≡ symbol ((stay ++ old) ++ behind) → IsBehind behind → IsRange T (length old) (x.offset + length stay)
+range T x stay old behind s plain is b =
+    let name : List ℕ = stay ++ old in
+    let spelt : Spelling s.text (symbol (name ++ behind)) s.after = subst (λ t. Spelling s.text t s.after) is s.spelt in
+    let split : s.text ≡ name ++ (behind ++ s.after) = spelt.1.split ∙ append_assoc name behind s.after in
+    let whole : T ≡ s.front ++ (name ++ (behind ++ s.after)) = s.split ∙ ap (λ zs. s.front ++ zs) split in
+    let begins : begins_with in_symbol (name ++ (behind ++ s.after)) ≡ true = subst (λ zs. begins_with in_symbol zs ≡ true) split (symbol_first s.text (name ++ behind) s.after spelt) in
+    let each = (and_parts (list_all in_symbol name) (list_all in_symbol behind) (sym (list_all-append in_symbol name behind) ∙ spelt.1.each)).0 in
+    let each_stay = (and_parts (list_all in_symbol stay) (list_all in_symbol old) (sym (list_all-append in_symbol stay old) ∙ each)).0 in
+    let at = s.at in
+    let size = length-append stay old in
+    let there : length s.front + length name ≡ x.offset + length stay + length old = omega arith in
+    let first : IsWhole T (x.offset + length stay) = subst (λ n. IsWhole T (n + length stay)) (sym s.at) (begins_whole T s.front stay old (behind ++ s.after) plain whole (subst IsUtf8 split s.utf8) each_stay begins) in
+    let last : IsWhole T (x.offset + length stay + length old) = subst (IsWhole T) there (ends_whole T s.front name behind s.after whole each begins b spelt.1.stops) in
+    (last.0, λ enc. inverse_law enc T (x.offset + length stay) first, λ enc. inverse_law enc T (x.offset + length stay + length old) last)

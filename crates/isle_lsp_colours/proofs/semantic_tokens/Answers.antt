@@ -17,11 +17,11 @@ returns c =
     let shown = rw c.deref-2.ensures.value at c.tokens_value.ensures in
     record {
       tokens =
-          IfOk-weaker c.tokens_value.result (λ value. view value ≡ tokens_data text tokens) (λ value. AreTokens text c.args.within (view value))
-          (λ value is. made text c.args.within classes tokens (view value) c.in_ok-classes.ensures found is)
+          IfOk-weaker c.tokens_value.result (λ value. view value ≡ tokens_data c.args.encoding text tokens) (λ value. AreTokens c.args.encoding text c.args.within (view value))
+          (λ value is. made c.args.encoding text c.args.within classes tokens (view value) c.in_ok-classes.ensures found is)
           shown;
       shallow =
-          IfOk-weaker c.tokens_value.result (λ value. view value ≡ tokens_data text tokens) (λ value. depth (view value) ≤ 2)
-          (λ value is. tokens_shallow text c.args.within (view value) (made text c.args.within classes tokens (view value) c.in_ok-classes.ensures found is))
+          IfOk-weaker c.tokens_value.result (λ value. view value ≡ tokens_data c.args.encoding text tokens) (λ value. depth (view value) ≤ 2)
+          (λ value is. tokens_shallow c.args.encoding text c.args.within (view value) (made c.args.encoding text c.args.within classes tokens (view value) c.in_ok-classes.ensures found is))
           shown;
     }

@@ -13,6 +13,6 @@ returns-clause-ok g c = λ moments e.
     (c.step-state.ensures.state ∙ ap (next_state c.args.server.now.state) m)
     (c.step-state.ensures.action ∙ ap (action_of c.args.server.now.state) m)
     (c.in_ok-opened.ensures moments e)
-    c.in_ok-note.ensures.state c.in_ok-note.ensures.documents c.in_ok-note.ensures.folders c.in_ok-note.ensures.takes c.in_ok-note.ensures.watches
+    c.in_ok-note.ensures.state c.in_ok-note.ensures.documents c.in_ok-note.ensures.encoding c.in_ok-note.ensures.folders c.in_ok-note.ensures.takes c.in_ok-note.ensures.watches
     c.in_ok-shown.ensures
     (c.perform.ensures.sends (decoded c.args.body.items (option_map view c.in_ok-message.message) (rw c.as_slice.ensures.value at c.in_ok-message.ensures.ok)))

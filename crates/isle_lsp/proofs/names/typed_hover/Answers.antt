@@ -18,11 +18,11 @@ returns-clause-ok c =
     let by_items = subst (λ programs. IsTypedHover (map (λ p. map text_of p.items) programs) name place hover typed) c.deref-2.ensures.value c.in_ok-typed.ensures.ok in
     let by_programs = subst (λ programs. IsTypedHover programs name place hover typed) c.in_ok-programs.ensures by_items in
     let by_documents =
-    subst (λ documents. IsTypedHover (programs_of (map document_of documents) shown name) name place hover typed) c.deref.ensures.value by_programs in
+    subst (λ documents. IsTypedHover (programs_of c.args.server.now.encoding (map document_of documents) shown name) name place hover typed) c.deref.ensures.value by_programs in
     let documents = map document_of c.args.server.now.documents.items in
-    let by_name = subst (λ file. IsTypedHover (programs_of documents shown file) file place hover typed) c.as_str-file.ensures.value by_documents in
+    let by_name = subst (λ file. IsTypedHover (programs_of c.args.server.now.encoding documents shown file) file place hover typed) c.as_str-file.ensures.value by_documents in
     let file = shown.file in (
       typed,
-      subst (λ position. IsTypedHover (programs_of documents shown file) file position hover typed) c.position_of-position.ensures by_name,
+      subst (λ position. IsTypedHover (programs_of c.args.server.now.encoding documents shown file) file position hover typed) c.position_of-position.ensures by_name,
       refl,
     )

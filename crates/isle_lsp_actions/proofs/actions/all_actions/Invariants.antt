@@ -6,5 +6,5 @@ use Rattle.isle_lsp_actions.proofs.actions.all_actions.Given as goal
 
 abbrev pub invariant-loop-diagnostic : goal.invariant-loop-diagnostic
 invariant-loop-diagnostic l =
-    all_actions l.text (map name_of l.names) l.lists (items_view l.diagnostics)
-    ≡ map action_of l.actions.items ++ all_actions l.text (map name_of l.names) l.lists (items_view (drop l.diagnostic-index l.diagnostics))
+    all_actions l.encoding l.text (map name_of l.names) l.lists (items_view l.diagnostics)
+    ≡ map action_of l.actions.items ++ all_actions l.encoding l.text (map name_of l.names) l.lists (items_view (drop l.diagnostic-index l.diagnostics))

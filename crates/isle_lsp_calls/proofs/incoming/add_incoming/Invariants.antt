@@ -8,5 +8,5 @@ use Rattle.isle_lsp_calls.proofs.incoming.add_incoming.Given as goal
 
 abbrev pub invariant-loop-caller : goal.invariant-loop-caller
 invariant-loop-caller l =
-    let by = incoming_in l.number (source l.source.uri.now l.ruler.text.now) (all_in l.index) l.found in
+    let by = incoming_in l.number (source l.ruler.encoding l.source.uri.now l.ruler.text.now) (all_in l.index) l.found in
     map view l.calls.items ++ flat_map by (drop l.caller-index l.caller-items) ≡ map view l.fn.calls.items ++ flat_map by l.caller-items

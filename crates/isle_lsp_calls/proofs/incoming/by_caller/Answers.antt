@@ -15,5 +15,5 @@ returns-in_ok-incoming_call-in-Some c =
     let here = is_pos c.new.result c.args.number caller.name c.new.ensures.file c.new.ensures.offset in
     let is : term_at (pos c.args.number caller.name) all ≡ Some (named_of c.in-Some.name) =
     ap (λ p. term_at p all) (sym here) ∙ (sym c.in_ok-name.ensures ∙ ap (option_map named_of) c.in-Some.is) in
-    called_by (source c.args.uri.now c.args.ruler.now.text.now) caller _ (named_of c.in-Some.name) c.args.ranges.now (view c.in_ok-from-in-Some.from) (view c.in_ok-incoming_call-in-Some.field-0) is
-    (c.in_ok-from-in-Some.ensures ∙ ap (caller_item (source c.args.uri.now c.args.ruler.now.text.now) caller) c.text.ensures) c.in_ok-incoming_call-in-Some.ensures
+    called_by (source c.args.ruler.now.encoding c.args.uri.now c.args.ruler.now.text.now) caller _ (named_of c.in-Some.name) c.args.ranges.now (view c.in_ok-from-in-Some.from) (view c.in_ok-incoming_call-in-Some.field-0) is
+    (c.in_ok-from-in-Some.ensures ∙ ap (caller_item (source c.args.ruler.now.encoding c.args.uri.now c.args.ruler.now.text.now) caller) c.text.ensures) c.in_ok-incoming_call-in-Some.ensures

@@ -13,5 +13,5 @@ pub returns-clause-ok : goal.returns-clause-ok
 returns-clause-ok c = (
   definitions_of c.in_ok-reading.reading.defs.items,
   c.in_ok-reading.ensures.ok,
-  c.in_ok-items.ensures ∙ ap (λ defs. hints_data c.args.file.text.now c.args.range (hints_in (file_of c.args.file) (definitions_of defs))) c.deref.ensures.value,
+  c.in_ok-items.ensures ∙ ap (λ defs. hints_data c.args.file.encoding c.args.file.text.now c.args.range (hints_in (file_of c.args.file) (definitions_of defs))) c.deref.ensures.value,
 )

@@ -7,8 +7,8 @@ use Rattle.isle_lsp_diagnostics.proofs.hints.items.Goals as goal
 
 pub loop-hint-init : goal.loop-hint-init
 loop-hint-init c = record {
-  so_far = ap (λ items. map item_data items ++ map (hint_data c.args.text.now) (map hint_of c.args.hints.now)) c.new-items.ensures.items;
-  near = start_place _;
+  so_far = ap (λ items. map item_data items ++ map (hint_data c.args.encoding c.args.text.now) (map hint_of c.args.hints.now)) c.new-items.ensures.items;
+  near = start_place c.args.encoding _;
 }
 
 pub loop-hint-preserved : goal.loop-hint-preserved

@@ -6,6 +6,6 @@ use Rattle.isle_lsp_diagnostics.proofs.hints.items.Given as goal
 
 abbrev pub invariant-loop-hint : goal.invariant-loop-hint
 invariant-loop-hint l = record {
-  so_far : map item_data l.items.items ++ map (hint_data l.text) (map hint_of (drop l.hint-index l.hints)) ≡ map (hint_data l.text) (map hint_of l.hints);
-  near : IsPlace l.text l.near;
+  so_far : map item_data l.items.items ++ map (hint_data l.encoding l.text) (map hint_of (drop l.hint-index l.hints)) ≡ map (hint_data l.encoding l.text) (map hint_of l.hints);
+  near : IsPlace l.encoding l.text l.near;
 }

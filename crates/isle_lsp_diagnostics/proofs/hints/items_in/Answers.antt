@@ -16,5 +16,5 @@ returns c =
     let rules = ap rules_at c.deref.ensures.value ∙ c.in_ok-rules.ensures in
     let all = c.in_ok-hints.ensures ∙ ap (λ env. rules_hints text env (rules_at c.deref.result.now)) c.in_ok-env.ensures ∙ ap (rules_hints text (environment ds)) rules in
     let own : map hint_of c.deref-2.result.now ≡ hints_in (file_of c.args.file) ds = ap (map hint_of) c.deref-2.ensures.value ∙ all in
-    let shown = ap (map hint_of) c.deref-3.ensures.value ∙ c.in_ok-within.ensures ∙ ap (are_within text c.args.range) own in
-    IfOk-weaker c.items.result _ _ (λ items is. ap (λ ds. array (items_of ds)) (is ∙ ap (map (hint_data text)) shown)) c.items.ensures
+    let shown = ap (map hint_of) c.deref-3.ensures.value ∙ c.in_ok-found.ensures ∙ ap (are_within c.args.file.encoding text c.args.range) own in
+    IfOk-weaker c.items.result _ _ (λ items is. ap (λ ds. array (items_of ds)) (is ∙ ap (map (hint_data c.args.file.encoding text)) shown)) c.items.ensures

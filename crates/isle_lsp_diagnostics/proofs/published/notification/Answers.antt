@@ -14,8 +14,8 @@ into_text-requires c = c.in_ok-put_notification.ensures.before ∙ c.new-out.ens
 
 pub returns : goal.returns
 returns c =
-    let d = publishing c.args.uri.now c.args.version (diagnostics_data c.args.text.now (map mark_of c.args.diagnostics.now)) in
+    let d = publishing c.args.uri.now c.args.version (diagnostics_data c.args.encoding c.args.text.now (map mark_of c.args.diagnostics.now)) in
     let all = c.in_ok-put_notification.ensures.tokens ∙ ap (λ l. l ++ json_tokens (outline d)) c.new-out.ensures.tokens in
-    let reads = publishing_reads c.args.uri.now c.args.version c.args.text.now (omega arith) (map mark_of c.args.diagnostics.now) c.in_ok-put_notification.ensures.reads in
+    let reads = publishing_reads c.args.encoding c.args.uri.now c.args.version c.args.text.now (omega arith) (map mark_of c.args.diagnostics.now) c.in_ok-put_notification.ensures.reads in
     is_text d (string_bytes c.into_text.result) (adds_outline d [] (tokens (string_bytes c.into_text.result)) reads (c.into_text.ensures ∙ all))
-    (published_depth c.args.uri.now c.args.version c.args.text.now (map mark_of c.args.diagnostics.now))
+    (published_depth c.args.encoding c.args.uri.now c.args.version c.args.text.now (map mark_of c.args.diagnostics.now))

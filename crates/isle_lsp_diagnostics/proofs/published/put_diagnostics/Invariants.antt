@@ -11,7 +11,7 @@ use Rattle.isle_lsp_diagnostics.proofs.published.put_diagnostics.Given as goal
 abbrev pub invariant-loop-diagnostic : goal.invariant-loop-diagnostic
 invariant-loop-diagnostic l = record {
   before : l.out.before ≡ l.fn.out.before;
-  tokens : l.out.tokens ++ items_tokens (items_outline (items_of (map (mark_data l.text) (map mark_of (drop l.diagnostic-index l.diagnostics)))))
-      ≡ l.fn.out.tokens ++ key (codes "diagnostics") ∷ begin_array ∷ items_tokens (items_outline (items_of (map (mark_data l.text) (map mark_of l.diagnostics))));
-  place : IsPlace l.text l.place;
+  tokens : l.out.tokens ++ items_tokens (items_outline (items_of (map (mark_data l.encoding l.text) (map mark_of (drop l.diagnostic-index l.diagnostics)))))
+      ≡ l.fn.out.tokens ++ key (codes "diagnostics") ∷ begin_array ∷ items_tokens (items_outline (items_of (map (mark_data l.encoding l.text) (map mark_of l.diagnostics))));
+  place : IsPlace l.encoding l.text l.place;
 }

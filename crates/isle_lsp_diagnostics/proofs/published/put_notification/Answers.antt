@@ -12,6 +12,6 @@ pub returns-clause-tokens : goal.returns-clause-tokens
 returns-clause-tokens c =
     let version = c.in_ok-put_text.ensures.tokens ∙ ap (λ ts. ts ++ key (codes "jsonrpc") ∷ string (codes "2.0") ∷ []) c.in_ok-begin_object.ensures.ok in
     let method = c.in_ok-put_text-2.ensures.tokens ∙ ap (λ ts. ts ++ key (codes "method") ∷ string (codes "textDocument/publishDiagnostics") ∷ []) version in
-    let parameters = json_tokens (outline (parameters_data c.args.uri.now c.args.version (diagnostics_data c.args.text.now (map mark_of c.args.diagnostics.now)))) in
+    let parameters = json_tokens (outline (parameters_data c.args.uri.now c.args.version (diagnostics_data c.args.encoding c.args.text.now (map mark_of c.args.diagnostics.now)))) in
     let all = c.in_ok-put_parameters.ensures.tokens ∙ ap (λ ts. ts ++ key (codes "params") ∷ parameters) method in
     on_ok_weaker c.end_object.result (λ closed. closed ∙ ap (λ ts. ts ++ end_object ∷ []) all ∙ simp append_assoc) c.end_object.ensures.ok

@@ -10,7 +10,7 @@ use Rattle.isle_lsp_diagnostics.proofs.published.put_parameters.Goals as goal
 pub returns-clause-tokens : goal.returns-clause-tokens
 returns-clause-tokens c =
     let opened = c.in_ok-begin_object.ensures.ok ∙ ap (λ ts. ts ++ begin_object ∷ []) c.in_ok-key.ensures.ok in
-    let list = json_tokens (outline (diagnostics_data c.args.text.now (map mark_of c.args.diagnostics.now))) in
+    let list = json_tokens (outline (diagnostics_data c.args.encoding c.args.text.now (map mark_of c.args.diagnostics.now))) in
     let all = c.in_ok-put_diagnostics.ensures.tokens ∙ ap (λ ts. ts ++ key (codes "diagnostics") ∷ list) opened in
     let uri = c.in_ok-put_text.ensures.tokens ∙ ap (λ ts. ts ++ key (codes "uri") ∷ string c.args.uri.now ∷ []) all in
     let version = members_tokens (members_outline (version_member c.args.version)) in

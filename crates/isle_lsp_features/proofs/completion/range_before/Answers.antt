@@ -2,4 +2,4 @@ use Rattle.isle_lsp_text.proofs.Places.{start_place}
 use Rattle.isle_lsp_features.proofs.completion.range_before.Goals as goal
 
 pub range_between-requires : goal.range_between-requires
-range_between-requires c = start_place _
+range_between-requires c = start_place _ _

@@ -10,5 +10,5 @@ abbrev pub invariant-loop-occurrence : goal.invariant-loop-occurrence
 invariant-loop-occurrence l = record {
   so_far : map item_data l.items.items ++ flat_map (location_in l.number (text_of l.source) l.with_definitions) (drop l.occurrence-index l.found)
       ≡ map item_data l.fn.items.items ++ flat_map (location_in l.number (text_of l.source) l.with_definitions) l.found;
-  near : IsPlace l.source.text.now l.near;
+  near : IsPlace l.source.encoding l.source.text.now l.near;
 }

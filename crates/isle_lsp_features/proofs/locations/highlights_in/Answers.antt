@@ -5,4 +5,4 @@ use Rattle.isle_lsp_protocol.specs.Items.{item_data}
 use Rattle.std.specs.Prelude.{map}
 
 pub loop-occurrence-init : goal.loop-occurrence-init
-loop-occurrence-init c = record { so_far = ap (map item_data) c.new-items.ensures.items; near = start_place c.args.text.now }
+loop-occurrence-init c = record { so_far = ap (map item_data) c.new-items.ensures.items; near = start_place c.args.place.encoding c.args.place.text.now }

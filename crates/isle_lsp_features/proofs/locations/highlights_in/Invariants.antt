@@ -7,6 +7,6 @@ use Rattle.isle_lsp_features.proofs.locations.highlights_in.Given as goal
 
 abbrev pub invariant-loop-occurrence : goal.invariant-loop-occurrence
 invariant-loop-occurrence l = record {
-  so_far : map item_data l.items.items ≡ flat_map (highlight_of l.file l.text) (take l.occurrence-index l.found);
-  near : IsPlace l.text l.near;
+  so_far : map item_data l.items.items ≡ flat_map (highlight_of l.place.encoding l.place.pos.file l.place.text.now) (take l.occurrence-index l.found);
+  near : IsPlace l.place.encoding l.place.text.now l.near;
 }

@@ -1,6 +1,7 @@
 use Rattle.std.proofs.Common.{◌≡◌, ◌+◌, ◌++◌, List, map, drop, arith, ap, append-nil, option_to_list, subst, sym, ◌∙◌}
 use Rattle.std.proofs.lemmas.Grind.{common_steps}
 use Rattle.serde_json.specs.Data.{Members, no_members}
+use Rattle.isle_index.specs.Renaming.{part_view}
 use Rattle.isle_resolve.specs.Names.{named_of}
 use Rattle.isle_lsp_protocol.specs.Items.{with_changes}
 use Rattle.isle_lsp_protocol.specs.declared.items.Item.{Item}
@@ -14,12 +15,12 @@ pub loop-number-preserved : goal.loop-number-preserved
 loop-number-preserved c =
     let i = c.loop-number.number in
     let program = c.args.program.now in
-    let all : Members = wanted.with_changes 0 (map text_of program) (named_of c.args.name.now) c.args.new.now c.args.places.now no_members in
+    let all : Members = wanted.with_changes 0 (map text_of program) (named_of c.args.name.now) (part_view c.args.part.now) c.args.new.now c.args.places.now no_members in
     let Plain : List Item → Type 0 = λ items.
-    wanted.with_changes (i + 1) (map text_of (drop (i + 1) program)) (named_of c.args.name.now) c.args.new.now c.args.places.now (with_changes items no_members) ≡ all in
+    wanted.with_changes (i + 1) (map text_of (drop (i + 1) program)) (named_of c.args.name.now) (part_view c.args.part.now) c.args.new.now c.args.places.now (with_changes items no_members) ≡ all in
     let more : List Item = option_to_list c.in_ok-item.field-0 in
     let next =
-    goes_on program i _ (named_of c.args.name.now) c.args.new.now c.args.places.now c.loop-number-test.true c.loop-number.items.items more all
+    goes_on program i _ (named_of c.args.name.now) (part_view c.args.part.now) c.args.new.now c.args.places.now c.loop-number-test.true c.loop-number.items.items more all
     c.loop-number.invariant.plain c.in_ok-item.ensures.plain in
     elim c.match-branch-2.branch [
       | in-Some+in_ok-push w ↦ record {

@@ -10,5 +10,5 @@ use Rattle.isle_lsp_features.proofs.symbols.add_matching.Given as goal
 abbrev pub invariant-loop-symbol : goal.invariant-loop-symbol
 invariant-loop-symbol l = record {
   so_far : map item_data l.items.items ++ flat_map (symbol_in l.query (text_of l.source)) (map symbol_of (drop l.symbol-index l.symbols)) ≡ map item_data l.fn.items.items ++ flat_map (symbol_in l.query (text_of l.source)) (map symbol_of l.symbols);
-  near : IsPlace l.source.text.now l.near;
+  near : IsPlace l.source.encoding l.source.text.now l.near;
 }

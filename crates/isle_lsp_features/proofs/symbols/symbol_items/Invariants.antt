@@ -7,6 +7,6 @@ use Rattle.isle_lsp_features.proofs.symbols.symbol_items.Given as goal
 
 abbrev pub invariant-loop-symbol : goal.invariant-loop-symbol
 invariant-loop-symbol l = record {
-  so_far : map item_data l.items.items ≡ map (λ s. symbol_data l.text l.lists (symbol_of s)) (take l.symbol-index l.symbols);
-  near : IsPlace l.text l.near;
+  so_far : map item_data l.items.items ≡ map (λ s. symbol_data l.encoding l.text l.lists (symbol_of s)) (take l.symbol-index l.symbols);
+  near : IsPlace l.encoding l.text l.near;
 }

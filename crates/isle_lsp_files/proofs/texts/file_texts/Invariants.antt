@@ -6,4 +6,4 @@ use Rattle.isle_lsp_files.proofs.texts.file_texts.Given as goal
 
 abbrev pub invariant-loop-file : goal.invariant-loop-file
 invariant-loop-file l =
-    map text_of l.texts.items ≡ map (file_text (view_of l.view) (map text_of l.opened)) (map file_of (take l.file-index l.view.files.items))
+    map text_of l.texts.items ≡ map (file_text l.encoding (view_of l.view) (map text_of l.opened)) (map file_of (take l.file-index l.view.files.items))

@@ -6,6 +6,6 @@ use Rattle.isle_lsp_ranges.proofs.lines.edits_value.Given as goal
 
 abbrev pub invariant-loop-edit : goal.invariant-loop-edit
 invariant-loop-edit l = record {
-  values : map view l.values.items ≡ map (edit_data l.old l.new) (take l.edit-index l.edits);
-  place : IsPlace l.old l.place;
+  values : map view l.values.items ≡ map (edit_data l.encoding l.old l.new) (take l.edit-index l.edits);
+  place : IsPlace l.encoding l.old l.place;
 }

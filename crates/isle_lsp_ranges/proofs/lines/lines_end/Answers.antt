@@ -11,4 +11,4 @@ after_end range = by_test (range.end.unit == 0 && nat_lt range.start.line range.
   by_test false = omega arith
 
 pub returns-then-range-text : goal.returns-then-range-text
-returns-then-range-text c = sym (past_lines (line_after c.args.range) 0 c.args.text.now (omega (arith, after_end c.args.range, c.if-range-text.true)))
+returns-then-range-text c = sym (past_lines c.args.encoding (line_after c.args.range) 0 c.args.text.now (omega (arith, after_end c.args.range, c.if-range-text.true)))

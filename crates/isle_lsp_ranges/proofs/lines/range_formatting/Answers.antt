@@ -7,4 +7,4 @@ edits_value-requires c =
     rw c.deref.ensures.value (λ i d h. edit_at c.args.old.now c.args.new.now c.offset_of-from.result c.lines_end-to.result c.in_ok-edits.edits.items i d c.in_ok-edits.ensures h)
 
 pub returns-clause-shallow : goal.returns-clause-shallow
-returns-clause-shallow c = edits_shallow c.edits_value.result c.args.old.now c.args.new.now c.deref.result.now c.edits_value.ensures
+returns-clause-shallow c = edits_shallow c.args.encoding c.edits_value.result c.args.old.now c.args.new.now c.deref.result.now c.edits_value.ensures

@@ -9,6 +9,6 @@ loop-left-init c =
     let none : drop (length c.args.parts.now) c.args.parts.now ≡ [] = drop_all (length c.args.parts.now) c.args.parts.now (omega arith) in
     record {
       within = omega arith;
-      value = c.in_ok-value.ensures ∙ ap (selection c.args.text.now) (sym none);
-      near = start_place c.args.text.now;
+      value = c.in_ok-value.ensures ∙ ap (selection c.args.encoding c.args.text.now) (sym none);
+      near = start_place c.args.encoding c.args.text.now;
     }

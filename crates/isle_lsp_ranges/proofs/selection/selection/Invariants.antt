@@ -7,8 +7,8 @@ use Rattle.isle_lsp_ranges.proofs.selection.selection.Given as goal
 abbrev pub invariant-loop-left : goal.invariant-loop-left
 invariant-loop-left l = record {
   within : l.left ≤ length l.parts;
-  value : view l.value ≡ selection l.text (drop l.left l.parts);
-  near : IsPlace l.text l.near;
+  value : view l.value ≡ selection l.encoding l.text (drop l.left l.parts);
+  near : IsPlace l.encoding l.text l.near;
 }
 
 abbrev pub decreases-loop-left : goal.decreases-loop-left

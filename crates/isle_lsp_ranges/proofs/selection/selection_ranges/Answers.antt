@@ -13,8 +13,8 @@ returns-clause-selections c = record {
   lists = c.in_ok-lists.lists.items;
   are_words = c.in_ok-words.ensures;
   are_lists = c.in_ok-lists.ensures;
-  are = view-Array c.loop-position.values ∙ ap (λ vs. array (items_of vs)) (all_values (selection_at c.args.text.now c.in_ok-words.words.items c.in_ok-lists.lists.items) c.args.positions.now c.loop-position.position-index c.loop-position.values.items c.loop-position-test.false c.loop-position.invariant);
+  are = view-Array c.loop-position.values ∙ ap (λ vs. array (items_of vs)) (all_values (selection_at c.args.encoding c.args.text.now c.in_ok-words.words.items c.in_ok-lists.lists.items) c.args.positions.now c.loop-position.position-index c.loop-position.values.items c.loop-position-test.false c.loop-position.invariant);
 }
 
 pub returns-clause-shallow : goal.returns-clause-shallow
-returns-clause-shallow c = selections_depth c.args.text.now c.args.positions.now _ (returns-clause-selections c)
+returns-clause-shallow c = selections_depth c.args.encoding c.args.text.now c.args.positions.now _ (returns-clause-selections c)
